@@ -1,0 +1,2 @@
+pub mod Dialling
+pub mod Signals

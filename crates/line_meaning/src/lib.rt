@@ -1,0 +1,1 @@
+//! What the messages of analogue lines mean: tables and laws. The code that keeps to them is the crate `line`.
