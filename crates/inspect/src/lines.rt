@@ -26,7 +26,10 @@ fn show_reading(rt: &LibcRuntime, reading: &Reading) -> io::Result<()> {
             let number = setup.number.kind;
             let digits = Characters(setup.number.digits.as_octets());
             let bearer = Octets(setup.bearer.as_octets());
-            println!(rt, "  {number}, digits {digits}; bearer {bearer}; not from an ISDN")
+            println!(
+                rt,
+                "  {number}, digits {digits}; bearer {bearer}; not from an ISDN"
+            )
         }
         _ => Ok(()),
     }
@@ -34,7 +37,11 @@ fn show_reading(rt: &LibcRuntime, reading: &Reading) -> io::Result<()> {
 
 /// One message of a line: leg, event, kind and digits, or the refusal.
 pub fn show_line_message(rt: &LibcRuntime, octets: &[u8]) -> io::Result<Found> {
-    let found = Found { elements: 0, broken: false, same: false };
+    let found = Found {
+        elements: 0,
+        broken: false,
+        same: false,
+    };
     match reading::read(MOST_LINES, octets) {
         Ok(reading) => {
             show_reading(rt, &reading)?;
@@ -42,7 +49,11 @@ pub fn show_line_message(rt: &LibcRuntime, octets: &[u8]) -> io::Result<Found> {
         }
         Err(refusal) => {
             println!(rt, "  {refusal}")?;
-            Ok(Found { elements: 0, broken: true, same: false })
+            Ok(Found {
+                elements: 0,
+                broken: true,
+                same: false,
+            })
         }
     }
 }

@@ -81,6 +81,9 @@ pub impl fmt::Display for Refusal as RefusalDisplay {
         let system = self.system;
         let layer = self.layer;
         let reason = self.reason;
-        write!(f, "refused {number} at {place}: {reason} ({system} side: {layer})")
+        write!(
+            f,
+            "refused {number} at {place}: {reason} ({system} side: {layer})"
+        )
     }
 }
