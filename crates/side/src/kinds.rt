@@ -48,7 +48,7 @@ pub enum System {
     Line,
 }
 
-/// Why a message, a request or a cut is refused. The numbers are those of the table in the documents.
+/// Why a message, a request or a cut is refused. The numbers are those of the table in docs/EXCHANGE.md.
 #[derive(Clone, Copy, PartialEq, Eq, Debug)]
 pub enum Reason {
     /// 1: a buffer is below 256 octets.
