@@ -81,8 +81,9 @@ fn write_event(leg: Leg, event: Option<u8>, out: &mut [u8]) -> usize
 {
     match event {
         Some(event) => {
+            let length = 8;
             out[0..8].copy_from_slice(&[b'L', b'I', b'N', 0x00, 0x01, leg.octet(), event, 0x00]);
-            8
+            length
         }
         None => 0,
     }

@@ -25,7 +25,8 @@ use Rattle.side.specs.declared.kinds.Refusal.{Refusal}
 use Rattle.side.specs.Table.{heardIn, toldIn, heardTo, toldTo}
 use Rattle.side.specs.Limits.{cost}
 use Rattle.side.specs.Contents.{Part, five}
-use Rattle.side.specs.Signals.{Contents, Heard}
+use Rattle.side.specs.declared.contents.Signal.{Signal}
+use Rattle.side.specs.Signals.{Contents, Heard, kindOf, contentsOf}
 
 -- the number by which a refusal is known
 abbrev pub reasonNumber : Reason → ℕ
@@ -80,6 +81,10 @@ pub record Within (k : Kind) (c : Contents) : Type 0 where
   pub number : k ≡ Setup → (t : NumberType) × ((d : List ℕ) × (c .number ≡ Some (t, d)) × dialling.Number d)
   pub noted : k ≡ Progress → (l : ℕ) × ((d : ℕ) × (c .progress ≡ Some (l, d)))
   pub cause : k ≡ Clear → (l : ℕ) × ((v : ℕ) × (c .cause ≡ Some (l, v)) × (l < 16) × (v < 128))
+
+-- every value of the type keeps to them
+abbrev pub AllWithin : Type 0
+AllWithin = (s : Signal) → Within (kindOf s) (contentsOf s)
 
 -- the phase that a leg is in afterwards, and the message that goes out at it
 pub record Turn : Type 0 where

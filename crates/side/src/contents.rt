@@ -5,6 +5,8 @@ ghost use Rattle.side.specs.Limits.{capabilityCode};
 
 mod making;
 
+pub use making::contents_are_within_limits;
+
 use crate::leg::Leg;
 use crate::parts::Parts;
 use digits::Digits;

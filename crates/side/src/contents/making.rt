@@ -10,6 +10,7 @@ ghost use Rattle.std.specs.declared.result.Result.the-variants.{Err};
 ghost use Rattle.std.specs.declared.option.Option.the-variants.{Some, None};
 ghost use Rattle.values.specs.Bearers.{bearerIn};
 ghost use Rattle.side.specs.Signals.{bearerOf, kindOf, contentsOf, causeOf};
+ghost use Rattle.side.specs.Meaning.{AllWithin};
 use super::Bearer;
 use super::Cause;
 use super::Signal;
@@ -94,4 +95,11 @@ impl Signal {
             Signal::Down => Kind::Down,
         }
     }
+}
+
+/// Whatever a signal says is within the limits of its kind: others cannot be made.
+pub fn contents_are_within_limits() -> u8
+    ensures { λ _. ⌜ AllWithin ⌝ }
+{
+    0
 }
