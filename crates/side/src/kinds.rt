@@ -36,7 +36,7 @@ pub enum Phase {
     Alerted,
     /// The call is answered.
     Answered,
-    /// The call is over and the leg not yet free.
+    /// The call is over, and the leg waits to be free.
     Clearing,
 }
 

@@ -1,7 +1,5 @@
-//! Text in and out: lines, words, numbers, and octets in hex.
 
 mod hex;
-mod numbers;
 mod types;
 mod words;
 
@@ -10,7 +8,6 @@ pub use hex::Octets;
 pub use hex::OctetsDisplay;
 pub use hex::hex_digit;
 pub use hex::read_octets;
-pub use numbers::number;
 pub use types::HexFault;
 pub use types::HexFaultDebug;
 pub use types::HexFaultEq;
