@@ -5,11 +5,10 @@ ghost use Rattle.side.specs.Limits.{capabilityCode};
 
 mod making;
 
-pub use making::contents_are_within_limits;
-
 use crate::leg::Leg;
 use crate::parts::Parts;
 use digits::Digits;
+pub use making::contents_are_within_limits;
 use values::Capability;
 use values::NumberType;
 

@@ -1,4 +1,3 @@
-
 mod hex;
 mod types;
 mod words;
