@@ -1,0 +1,15 @@
+pub mod Basics
+pub mod Readings
+pub mod Apart
+pub mod Steps
+pub mod Table
+pub mod Counts
+pub mod Sound
+pub mod Track
+pub mod Told
+pub mod Account
+pub mod Carry
+pub mod Named
+pub mod Refused
+pub mod Cuts
+pub mod Witness

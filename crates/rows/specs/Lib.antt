@@ -1,0 +1,10 @@
+pub mod Legs
+pub mod Sides
+pub mod Exchange
+pub mod Independence
+pub mod Calls
+pub mod Accounting
+pub mod Carriage
+pub mod Cutting
+pub mod Naming
+pub mod Refusals
