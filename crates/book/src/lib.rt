@@ -23,6 +23,13 @@ pub struct LegBook<'a, S: Signalling> {
     records: &'a mut [S::Record],
 }
 
+/// The place of a leg's record.
+fn place_of(leg: Leg) -> usize
+    ensures { λ r. ⌜ r ≡ leg .number ⌝ }
+{
+    usize::from(leg.octet())
+}
+
 impl<'a, S: Signalling> LegBook<'a, S> {
     /// Opens a side over records: as many legs as there are, up to the most, all blank; the others stay as they are.
     pub fn open(records: &'a mut [S::Record]) -> LegBook<'a, S>
@@ -49,7 +56,7 @@ impl<'a, S: Signalling> LegBook<'a, S> {
     fn get(&self, leg: Leg) -> Option<S::Record>
         ensures { λ r. ⌜ r ≡ cond (ltb (leg .number) (length (legsOf (meaning .most) (now (now (self .entry) .records))))) (Some (getD (legsOf (meaning .most) (now (now (self .entry) .records))) (leg .number) (meaning .blank))) None ⌝ }
     {
-        let n = leg.number();
+        let n = place_of(leg);
         if n < self.count() {
             let records = &*self.records;
             Some(records[n])
@@ -65,7 +72,7 @@ impl<'a, S: Signalling> LegBook<'a, S> {
         ensures rest { λ _. ⌜ drop (meaning .most) (now (now (self .exit) .records)) ≡ drop (meaning .most) (now (now (self .entry) .records)) ⌝ }
         ensures lender { λ _. ⌜ name (now (self .exit) .records) ≡ name (now (self .entry) .records) ⌝ }
     {
-        let n = leg.number();
+        let n = place_of(leg);
         self.records[n] = next;
     }
 }

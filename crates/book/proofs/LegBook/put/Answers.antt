@@ -10,20 +10,20 @@ use Rattle.book.proofs.LegBook.put.Needs as need
 pub offset-self-n : need.offset-self-n
 offset-self-n g c =
     let i = within (g .S·Signalling .meaning .most) (c .args .self .now .records .now) (c .args .leg .number) (c .pre) in
-    let h : c .number-n .result < length (c .args .self .now .records .now) = omega (arith, c .number-n .ensures .is) in
+    let h : c .place-of-n .result < length (c .args .self .now .records .now) = omega (arith, c .place-of-n .ensures) in
     search needs
 
 pub index-self-n : need.index-self-n
 index-self-n g c =
     let i = within (g .S·Signalling .meaning .most) (c .args .self .now .records .now) (c .args .leg .number) (c .pre) in
-    omega (arith, c .number-n .ensures .is)
+    omega (arith, c .place-of-n .ensures)
 
 pub returns : need.returns
 returns g c =
     let most = g .S·Signalling .meaning .most in
     let xs = c .args .self .now .records .now in
     record {
-      legs = ap (λ n. legsOf most (set xs n (c .args .next))) (c .number-n .ensures .is) ∙ leg-put most xs (c .args .leg .number) (c .pre) (c .args .next);
-      rest = ap (λ n. drop most (set xs n (c .args .next))) (c .number-n .ensures .is) ∙ rest-put most xs (c .args .leg .number) (c .pre) (c .args .next);
+      legs = ap (λ n. legsOf most (set xs n (c .args .next))) (c .place-of-n .ensures) ∙ leg-put most xs (c .args .leg .number) (c .pre) (c .args .next);
+      rest = ap (λ n. drop most (set xs n (c .args .next))) (c .place-of-n .ensures) ∙ rest-put most xs (c .args .leg .number) (c .pre) (c .args .next);
       lender = refl;
     }
