@@ -1,4 +1,6 @@
 //! The book of legs: a side over records that the host lends.
+#![tactic(auto)]
+
 ghost use Rattle.std.specs.Prelude.{◌≡◌, ℕ, ◌<◌, ◌≤◌, min, ◌++◌, length, drop, replicate, if◌then◌else◌, Some, None, nat_lt, slice_index_or, slice_set};
 ghost use Rattle.book.specs.Legs.{opened, legs_of, legs_few};
 

@@ -1,5 +1,7 @@
 //! Progress and the carried parts, read from a list of DSS 1 elements: the body of a DSS 1 message, or what
 //! access transport holds on a trunk.
+#![tactic(auto)]
+
 ghost use Rattle.std.specs.Prelude.{◌≡◌, ℕ, ◌+◌, cond, length, Some, None, MatchResult};
 ghost use Rattle.std.specs.Option as Options;
 ghost use Rattle.entries.specs.Codings.{dss1};

@@ -1,4 +1,5 @@
 //! Tests of the crates that read and write octets: lists of elements, dialled numbers and values.
+#![tactic(auto)]
 
 #[cfg(test)]
 mod dialling;

@@ -1,4 +1,5 @@
 //! Dialled numbers: 1 to 20 digits, read from text, and packed as address signals two to an octet.
+#![tactic(auto)]
 
 mod number;
 mod types;

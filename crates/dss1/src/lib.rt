@@ -1,4 +1,6 @@
 //! DSS 1: the messages of a subscriber's access read and written, and the record of a call place kept.
+#![tactic(auto)]
+
 ghost use Rattle.std.specs.Prelude.{◌≡◌};
 ghost use Rattle.dss1_meaning.proofs.Laws.{meaning_of_dss1};
 

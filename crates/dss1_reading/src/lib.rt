@@ -1,4 +1,5 @@
 //! DSS 1: the messages of a subscriber's access read, and the references and octets that reader and writer share.
+#![tactic(auto)]
 
 pub mod octets;
 pub mod reading;

@@ -1,12 +1,12 @@
 -- How a walk over a list goes on from place to place. Assumes nothing.
-use Rattle.std.proofs.Common.{◌≡◌, ℕ, zero, suc, ◌+◌, ◌-◌, ◌<◌, ◌≤◌, ◌⊎◌, List, [], ◌∷◌, length, get_or, take, drop, Some, None, sym, refl, ap, ◌∙◌, arith}
+use Rattle.std.proofs.Common.{◌≡◌, ℕ, zero, suc, ◌+◌, ◌<◌, ◌≤◌, ◌⊎◌, List, [], ◌∷◌, length, get_or, take, drop, Some, sym, ap, ◌∙◌, arith}
 use Rattle.std.proofs.lemmas.List.{drop_more, drop-drop, drop_all, length-take, length-drop}
 use Rattle.std.proofs.lemmas.Bool.{cond-true, eq-eqb, lt-ltb}
 use Rattle.std.proofs.lemmas.Bool.Decides.{nat_tests}
 use Rattle.elements.specs.declared.types.EndRule.{EndRule}
 use Rattle.elements.specs.declared.types.Seen.{Seen}
 use Rattle.elements.specs.declared.types.Seen.TheVariants.{Nothing, End, Single, Element, Broken}
-use Rattle.elements.specs.Elements.{begun, seen, Item, Stop, ended, ran_out, broke_off, Walk, more, stop, walk, item_in}
+use Rattle.elements.specs.Elements.{seen, ended, ran_out, broke_off, Walk, more, stop, walk, item_in}
 use Rattle.elements.proofs.Looks.{here}
 
 pub skipped : (rule : EndRule) (k p : ℕ) (xs : List ℕ) → k ≤ length xs → walk rule k p xs ≡ walk rule 0 (p + k) (drop k xs)

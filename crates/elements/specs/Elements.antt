@@ -1,6 +1,6 @@
 -- What a list of elements says: its elements one by one, the first with a wanted tag, and whether it is whole.
 -- Rests on the octets as a list of numbers, and on the end rule of the coding; nothing else.
-use Rattle.std.specs.Prelude.{ℕ, zero, suc, ◌+◌, Bool, true, false, cond, List, [], ◌∷◌, length, take, drop, Some, None, Ok, Err, Option, Result, ◌==◌, nat_le, nat_lt, slice_index}
+use Rattle.std.specs.Prelude.{ℕ, zero, suc, ◌+◌, Bool, false, cond, List, [], ◌∷◌, length, take, drop, Some, None, Ok, Err, Option, Result, ◌==◌, nat_le, nat_lt, slice_index}
 use Rattle.std.specs.Option.{option_map}
 use Rattle.elements.specs.declared.types.EndRule.{EndRule}
 use Rattle.elements.specs.declared.types.Seen.{Seen}

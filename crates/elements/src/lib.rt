@@ -1,6 +1,8 @@
 //! Reads lists of elements: tag, length, contents.
 //!
 //! One text serves every coding; a coding fixes how its lists end.
+#![tactic(auto)]
+
 ghost use Rattle.std.specs.Prelude.{◌≡◌, ℕ, ◌+◌, ◌-◌, ◌<◌, ◌≤◌, true, false, length, take, drop, Some, None, MatchOption};
 ghost use Rattle.std.specs.Option.{option_map};
 ghost use Rattle.elements.specs.declared.types.EndRule.{EndRule};
@@ -111,7 +113,7 @@ impl EndRule {
 
 /// What stands at a place of a list.
 pub fn look<C: Coding>(list: &[u8], place: usize) -> Seen
-    ensures seen { result ≡ seen rule (drop place list.now) }
+    ensures seen { result ≡ seen C.rule (drop place list.now) }
     ensures within { elim result [ Nothing ↦ length list.now ≤ place | End ↦ place < length list.now | Single ↦ place < length list.now | Element n ↦ place + 2 + n ≤ length list.now | Broken ↦ place < length list.now ] }
 {
     C::end_rule().look(list, place)
@@ -119,7 +121,7 @@ pub fn look<C: Coding>(list: &[u8], place: usize) -> Seen
 
 /// The first element with a wanted tag and at least one octet of contents: its place, and how many octets it holds.
 fn first<C: Coding>(list: &[u8], wanted: u8) -> Option<(usize, usize)>
-    ensures { MatchOption result (item_in wanted (walk rule 0 0 list.now) ≡ None) (λ x. (x.0 + 2 + x.1 ≤ length list.now) × (item_in wanted (walk rule 0 0 list.now) ≡ Some (record { place = x.0; tag = wanted; contents = take x.1 (drop (x.0 + 2) list.now) }))) }
+    ensures { MatchOption result (item_in wanted (walk C.rule 0 0 list.now) ≡ None) (λ x. (x.0 + 2 + x.1 ≤ length list.now) × (item_in wanted (walk C.rule 0 0 list.now) ≡ Some (record { place = x.0; tag = wanted; contents = take x.1 (drop (x.0 + 2) list.now) }))) }
 {
     let rule = C::end_rule();
     let mut p = 0;
@@ -141,7 +143,7 @@ fn first<C: Coding>(list: &[u8], wanted: u8) -> Option<(usize, usize)>
 
 /// The place of the first element with a wanted tag and at least one octet of contents, or none.
 pub fn find<C: Coding>(list: &[u8], wanted: u8) -> Option<usize>
-    ensures { result ≡ place_of rule wanted list.now }
+    ensures { result ≡ place_of C.rule wanted list.now }
 {
     match first::<C>(list, wanted) {
         Some((place, _)) => Some(place),
@@ -151,7 +153,7 @@ pub fn find<C: Coding>(list: &[u8], wanted: u8) -> Option<usize>
 
 /// The contents of that element.
 pub fn contents<'a, C: Coding>(list: &'a [u8], wanted: u8) -> Option<&'a [u8]>
-    ensures { option_map (λ x. x.now) result ≡ contents_of rule wanted list.now }
+    ensures { option_map (λ x. x.now) result ≡ contents_of C.rule wanted list.now }
 {
     match first::<C>(list, wanted) {
         Some((place, n)) => Some(&list[place + 2..place + 2 + n]),
@@ -162,7 +164,7 @@ pub fn contents<'a, C: Coding>(list: &'a [u8], wanted: u8) -> Option<&'a [u8]>
 /// The length of a list of which every element is whole and the end is where it must be, its end tag
 /// counted; else what is wrong, and where.
 pub fn check<C: Coding>(list: &[u8]) -> Result<usize, ListFault>
-    ensures { result ≡ checked rule list.now }
+    ensures { result ≡ checked C.rule list.now }
 {
     let rule = C::end_rule();
     let mut p = 0;

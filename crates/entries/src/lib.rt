@@ -1,4 +1,6 @@
 //! Tables of elements in which an element with no contents is left out.
+#![tactic(auto)]
+
 ghost use Rattle.std.specs.Prelude.{◌≡◌};
 ghost use Rattle.entries.specs.Entries.{entry_item};
 ghost use Rattle.entries.specs.ReadBack.{EntriesReadBack};

@@ -1,4 +1,5 @@
 //! Reads messages in hex from standard input, one a line, and says what stands in them.
+#![tactic(auto)]
 
 ghost use Rattle.std.specs.Prelude.{◌≡◌, take};
 

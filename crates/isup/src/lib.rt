@@ -1,4 +1,6 @@
 //! ISUP trunks: their messages read and written, and the record of a circuit kept.
+#![tactic(auto)]
+
 ghost use Rattle.std.specs.Prelude.{◌≡◌};
 ghost use Rattle.isup_meaning.proofs.Laws.{meaning_of_isup};
 

@@ -1,4 +1,6 @@
 //! Analogue lines: their messages read and written, and the record of a line kept.
+#![tactic(auto)]
+
 ghost use Rattle.std.specs.Prelude.{◌≡◌};
 ghost use Rattle.line_meaning.proofs.Laws.{meaning_of_lines};
 

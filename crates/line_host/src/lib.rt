@@ -1,4 +1,6 @@
 //! The lines of a host: a loan of its records, one message, and the records known afterwards.
+#![tactic(auto)]
+
 ghost use Rattle.std.specs.Prelude.{◌≡◌, ◌++◌, length, take, drop};
 ghost use Rattle.book.specs.Legs.{opened};
 ghost use Rattle.line_host.specs.Fresh.{one_message};

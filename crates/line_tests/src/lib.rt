@@ -1,4 +1,5 @@
 //! Tests of analogue lines: messages read and told over a book of legs.
+#![tactic(auto)]
 
 #[cfg(test)]
 mod calling;

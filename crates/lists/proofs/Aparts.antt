@@ -1,5 +1,5 @@
 -- A list is taken apart element by element. Assumes nothing.
-use Rattle.std.proofs.Common.{◌≡◌, ℕ, suc, ◌+◌, ◌-◌, ◌<◌, ◌≤◌, Bool, true, false, cond, ltb, List, [], ◌∷◌, ◌++◌, length, get_or, take, drop, Some, None, Ok, Option, sym, refl, ap, ◌∙◌, arith, length-drop, length-take, Bor}
+use Rattle.std.proofs.Common.{◌≡◌, ℕ, suc, ◌+◌, ◌-◌, ◌<◌, ◌≤◌, Bool, true, cond, ltb, List, [], ◌∷◌, ◌++◌, length, get_or, take, drop, Some, None, Ok, Option, sym, ap, ◌∙◌, arith, length-drop, Bor}
 use Rattle.std.proofs.lemmas.List.{take_more, drop_more, drop-take, take-take, take-append-drop, get_or-drop, length-take-le}
 use Rattle.std.proofs.lemmas.Bool.Decides.{nat_tests}
 use Rattle.elements.specs.declared.types.EndRule.{EndRule}
@@ -10,9 +10,9 @@ use Rattle.elements.specs.Elements.{is_tag, ends_list, stands_alone, begun, verd
 use Rattle.elements.proofs.Looks.{here}
 use Rattle.elements.proofs.Steps.{turned}
 use Rattle.writer.specs.declared.types.Item.{Item}
-use Rattle.writer.specs.declared.types.Item.TheVariants.{Element, Single, Absent}
+use Rattle.writer.specs.declared.types.Item.TheVariants.{Element, Single}
 use Rattle.writer.specs.Written.{element, ending}
-use Rattle.writer.specs.Items.{octets_of, written}
+use Rattle.writer.specs.Items.{written}
 use Rattle.writer.proofs.Tables.{written_push}
 use Rattle.lists.specs.Apart.{TakenApart}
 

@@ -1,11 +1,9 @@
 -- A written list is walked element by element. Assumes nothing.
-use Rattle.std.proofs.Common.{◌≡◌, ℕ, ◌+◌, ◌<◌, ◌≤◌, Bool, true, false, cond, ◌||◌, eqb, ltb, List, [], ◌∷◌, ◌++◌, length, take, drop, Some, None, Ok, Err, Option, Result, sym, refl, ap, ◌∙◌, append_assoc, add-one, arith, length-append}
-use Rattle.std.proofs.lemmas.List.{take_at, drop_at, take_all}
+use Rattle.std.proofs.Common.{◌≡◌, ℕ, ◌+◌, Bool, true, false, cond, ◌||◌, eqb, ltb, List, [], ◌∷◌, ◌++◌, length, take, drop, Some, None, Ok, Option, sym, refl, ap, ◌∙◌, append_assoc, add-one, arith, length-append}
+use Rattle.std.proofs.lemmas.List.{take_at, drop_at}
 use Rattle.std.proofs.lemmas.Bool.{cond-true, cond-false, lt-ltb, eq-eqb}
-use Rattle.std.proofs.lemmas.Bool.Decides.{nat_tests}
 use Rattle.std.specs.Option.{option_map}
 use Rattle.elements.specs.declared.types.EndRule.{EndRule}
-use Rattle.elements.specs.declared.types.ListFault.{ListFault}
 use Rattle.elements.specs.declared.types.Seen.TheVariants as seen
 use Rattle.elements.specs.Elements as read
 use Rattle.elements.specs.Elements.{is_tag, ends_list, stands_alone, begun, Walk, more, stop, walk, item_in, verdict, place_of, contents_of, checked}
@@ -14,8 +12,8 @@ use Rattle.writer.specs.declared.types.Item.{Item}
 use Rattle.writer.specs.declared.types.Item.TheVariants.{Element, Single, Absent}
 use Rattle.writer.specs.declared.types.WriteFault.{WriteFault}
 use Rattle.writer.specs.declared.types.WriteFault.TheVariants.{NotATag}
-use Rattle.writer.specs.Written.{element, ending, room_fault, element_fault, single_fault, Adds}
-use Rattle.writer.specs.Items.{octets_of, written, last_of, item_fault, or_else, table_fault}
+use Rattle.writer.specs.Written.{element, ending, element_fault, single_fault, Adds}
+use Rattle.writer.specs.Items.{octets_of, written, or_else, table_fault}
 use Rattle.lists.specs.ReadBack.{held, ReadsBack}
 
 sees : (rule : EndRule) (t : ℕ) (cs rest : List ℕ) → ends_list rule t ≡ false → stands_alone rule t ≡ false → begun rule t (length cs ∷ (cs ++ rest)) ≡ seen.Element (length cs)

@@ -1,6 +1,6 @@
 -- What taking a list apart gives: elements that, written again, are the octets they were read from.
 -- Rests on the reader's verdict on a list and on a table of elements as octets.
-use Rattle.std.specs.Prelude.{◌≡◌, ℕ, List, [], ◌∷◌, ◌++◌, take, Ok, Err, Result}
+use Rattle.std.specs.Prelude.{◌≡◌, ℕ, List, [], ◌++◌, take, Ok, Err, Result}
 use Rattle.elements.specs.declared.types.EndRule.{EndRule}
 use Rattle.elements.specs.declared.types.ListFault.{ListFault}
 use Rattle.elements.specs.declared.types.ListFault.TheVariants.{BreaksOff, NoEnd}

@@ -1,4 +1,6 @@
 //! Whole lists of elements: written from a table, and read back.
+#![tactic(auto)]
+
 ghost use Rattle.std.specs.Prelude.{◌≡◌, ◌++◌, length, take, IfOk, MatchResult};
 ghost use Rattle.elements.specs.Elements.{ran_out_at};
 ghost use Rattle.writer.specs.Written.{ending, Takes, Refuses};
@@ -23,8 +25,8 @@ pub fn write_list<C: Coding>(
     buf: &mut [u8],
     items: &[Item<'_>],
 ) -> Result<usize, WriteFault>
-    ensures wrote { MatchResult result (λ n. Takes (table_fault rule 0 0 items.now (length buf.old)) (written items.now ++ ending rule.end) 0 buf.old n buf.new) (λ e. Refuses (table_fault rule 0 0 items.now (length buf.old)) e buf.old buf.new) }
-    ensures reads { IfOk result (λ n. ReadsBack rule items.now (take n buf.new)) }
+    ensures wrote { MatchResult result (λ n. Takes (table_fault C.rule 0 0 items.now (length buf.old)) (written items.now ++ ending C.rule.end) 0 buf.old n buf.new) (λ e. Refuses (table_fault C.rule 0 0 items.now (length buf.old)) e buf.old buf.new) }
+    ensures reads { IfOk result (λ n. ReadsBack C.rule items.now (take n buf.new)) }
 {
     let closed = Open::begin().list(coding).close_with(buf, items)?;
     Ok(closed.length())
@@ -32,7 +34,7 @@ pub fn write_list<C: Coding>(
 
 /// What is wrong with a list whose octets run out at a place; else its length.
 fn ran_out<C: Coding>(place: usize) -> Result<usize, ListFault>
-    ensures { result ≡ ran_out_at rule.end place }
+    ensures { result ≡ ran_out_at C.rule.end place }
 {
     match C::end_rule().end {
         Some(_) => Err(ListFault::NoEnd(place)),
@@ -44,7 +46,7 @@ fn ran_out<C: Coding>(place: usize) -> Result<usize, ListFault>
 ///
 /// Written again they are the same octets, and so is the end of a list that is whole.
 pub fn take_apart<'a, C: Coding>(list: &'a [u8], heap: Global) -> Result<Apart<'a>, AllocError>
-    ensures { IfOk result (λ apart. TakenApart rule list.now apart.items.items apart.end) }
+    ensures { IfOk result (λ apart. TakenApart C.rule list.now apart.items.items apart.end) }
 {
     let mut items = Vec::new(heap);
     let mut place = 0;

@@ -1,4 +1,6 @@
 //! Rows of hearings and cuts on a brand new exchange over any two sides, and what is promised of them.
+#![tactic(auto)]
+
 ghost use Rattle.std.specs.Prelude.{ℕ};
 ghost use Rattle.side.specs.Meaning.{Meaning};
 ghost use Rattle.rows.specs.Sides.{sides_of};

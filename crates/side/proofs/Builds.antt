@@ -1,9 +1,8 @@
 -- How the carried parts are laid one behind another, and that each is found again. Assumes nothing.
-use Rattle.std.proofs.Common.{◌≡◌, ℕ, ◌+◌, ◌-◌, ◌%◌, ◌<◌, ◌≤◌, Bool, true, false, cond, eqb, ltb, List, [], ◌∷◌, ◌++◌, length, get_or, take, drop, Some, None, Ok, Err, Option, Result, sym, refl, ap, ◌∙◌, append_assoc, append-nil, arith, length-append, length-drop}
+use Rattle.std.proofs.Common.{◌≡◌, ℕ, ◌+◌, ◌-◌, ◌%◌, ◌<◌, ◌≤◌, Bool, cond, ltb, List, [], ◌++◌, length, get_or, take, drop, Some, Ok, Err, Result, sym, refl, ap, ◌∙◌, append_assoc, append-nil, arith, length-append, length-drop}
 use Rattle.std.proofs.lemmas.List.{drop-take, take-take, drop_at, take_at, get_or_append_left}
 use Rattle.std.proofs.lemmas.Bool.{cond-true, lt-ltb}
 use Rattle.std.proofs.lemmas.Bool.Decides.{nat_tests}
-use Rattle.side.specs.declared.kinds.PartsFault.{PartsFault}
 use Rattle.side.specs.declared.kinds.PartsFault.TheVariants.{TotalOver}
 use Rattle.values.specs.declared.types.BearerFault.{BearerFault}
 use Rattle.values.specs.declared.types.BearerFault.TheVariants.{TooShort, TooLong}

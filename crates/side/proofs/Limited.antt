@@ -1,9 +1,8 @@
 -- Whatever a signal says is within the limits of its kind. Assumes nothing.
-use Rattle.std.proofs.Common.{◌≡◌, ℕ, ◌+◌, ◌%◌, ◌<◌, ◌≤◌, Bool, true, false, cond, eqb, ltb, List, [], length, get_or, take, drop, Some, None, Ok, Err, Option, sym, refl, ap, ◌∙◌, subst, arith, lit≤, length-drop, length-take}
+use Rattle.std.proofs.Common.{◌≡◌, ℕ, ◌+◌, ◌%◌, ◌≤◌, false, cond, ltb, List, [], length, get_or, drop, Ok, Err, refl, ap, ◌∙◌, arith, lit≤, length-drop}
 use Rattle.std.proofs.lemmas.List.{length-take-le, get_or-take}
 use Rattle.std.proofs.lemmas.Bool.{cond-false, le-ltb}
 use Rattle.std.proofs.lemmas.Bool.Decides.{nat_tests}
-use Rattle.std.specs.Option.{option_map}
 use Rattle.digits.proofs.Steps.{number_of}
 use Rattle.values.specs.declared.types.Capability.{Capability}
 use Rattle.values.specs.declared.types.Capability.TheVariants.{Speech, Unrestricted, Audio}
@@ -13,12 +12,10 @@ use Rattle.side.specs.declared.kinds.Kind.{Kind}
 use Rattle.side.specs.declared.kinds.Kind.TheVariants as kind
 use Rattle.side.specs.declared.parts.Parts.{Parts}
 use Rattle.side.specs.declared.contents.Bearer.{Bearer}
-use Rattle.side.specs.declared.contents.Cause.{Cause}
-use Rattle.side.specs.declared.contents.Progress.{Progress}
 use Rattle.side.specs.declared.contents.Signal.{Signal}
 use Rattle.side.specs.declared.contents.Signal.TheVariants as said
 use Rattle.side.specs.Limits.{cost, capability_code}
-use Rattle.side.specs.Contents.{Part, cut, parts_of, calling_of, called_of, low_of, high_of, user_of}
+use Rattle.side.specs.Contents.{cut, parts_of, calling_of, called_of, low_of, high_of, user_of}
 use Rattle.side.specs.Signals.{Contents, bearer_of, kind_of, contents_of}
 use Rattle.side.specs.Meaning.{PartsWithin, Within, bears}
 

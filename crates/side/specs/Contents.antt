@@ -1,6 +1,6 @@
 -- The carried parts as they are seen from outside: a list of tags with their contents, in ascending order.
 -- Rests on the values that hold them.
-use Rattle.std.specs.Prelude.{◌≡◌, ℕ, ◌+◌, ◌<◌, ◌≤◌, cond, List, [], ◌∷◌, ◌++◌, length, take, drop, Some, None, Option, ◌==◌, nat_lt}
+use Rattle.std.specs.Prelude.{ℕ, ◌+◌, cond, List, [], ◌∷◌, ◌++◌, length, take, drop, Some, None, Option, ◌==◌, nat_lt}
 use Rattle.std.specs.Borrow.{Bor}
 use Rattle.side.specs.declared.parts.Parts.{Parts}
 use Rattle.side.specs.declared.kinds.PartsFault.{PartsFault}

@@ -1,6 +1,6 @@
 -- What a signalling side is: pure functions that say what its messages mean, and the laws that they keep.
 -- Rests on the table of phases and on contents seen from outside; whoever is generic over sides rests on this alone.
-use Rattle.std.specs.Prelude.{◌≡◌, ℕ, ◌+◌, ◌<◌, ◌≤◌, Bool, true, false, cond, ◌⊎◌, ◌↔◌, List, [], ◌∷◌, ◌++◌, length, Some, None, Ok, Err, Option, Result, ◌≢◌}
+use Rattle.std.specs.Prelude.{◌≡◌, ℕ, ◌+◌, ◌<◌, ◌≤◌, Bool, true, false, cond, ◌⊎◌, ◌↔◌, List, [], ◌∷◌, length, Some, Ok, Err, Result, ◌≢◌}
 use Rattle.values.specs.declared.types.NumberType.{NumberType}
 use Rattle.digits.specs.Dialling as dialling
 use Rattle.side.specs.declared.kinds.Kind.{Kind}
@@ -10,7 +10,6 @@ use Rattle.side.specs.declared.kinds.Phase.TheVariants.{Idle, Clearing}
 use Rattle.side.specs.declared.kinds.System.{System}
 use Rattle.side.specs.declared.kinds.Reason.{Reason}
 use Rattle.side.specs.declared.kinds.Reason.TheVariants.{ShortBuffer, Malformed, UnknownType, NoSuchLeg, Missing, BadValue, WrongPhase, NoRoute, NotInCall}
-use Rattle.side.specs.declared.kinds.Layer.TheVariants.{Legs}
 use Rattle.side.specs.declared.kinds.Refusal.{Refusal}
 use Rattle.side.specs.Table.{heard_in, told_in, heard_to, told_to}
 use Rattle.side.specs.Limits.{cost}

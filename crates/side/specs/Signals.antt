@@ -1,6 +1,6 @@
 -- What a message says, seen from outside: its kind and its contents as plain lists and numbers.
 -- Rests on the values that hold them and on the carried parts.
-use Rattle.std.specs.Prelude.{◌≡◌, ℕ, ◌+◌, ◌%◌, ◌<◌, ◌≤◌, Bool, true, false, cond, List, [], ◌∷◌, ◌++◌, length, take, Some, None, Ok, Err, Option, Result}
+use Rattle.std.specs.Prelude.{ℕ, ◌%◌, Bool, true, List, [], ◌∷◌, take, Some, None, Ok, Err, Option, Result}
 use Rattle.std.specs.Option.{option_map}
 use Rattle.values.specs.declared.types.NumberType.{NumberType}
 use Rattle.digits.specs.Dialling.{characters}

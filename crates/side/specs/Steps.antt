@@ -1,6 +1,6 @@
 -- What taking a message and telling a request do to a side's records and to the buffer lent for the message.
 -- Rests on the side's meaning; refusals are decided first, and a refusal changes nothing.
-use Rattle.std.specs.Prelude.{◌≡◌, ℕ, Bool, true, false, cond, ◌&&◌, List, [], ◌∷◌, ◌++◌, length, drop, Some, None, Ok, Err, Option, Result, MatchResult, nat_lt, slice_index_or, slice_set}
+use Rattle.std.specs.Prelude.{◌≡◌, ℕ, Bool, cond, ◌&&◌, List, ◌++◌, length, drop, Some, None, Ok, Err, Option, Result, MatchResult, nat_lt, slice_index_or, slice_set}
 use Rattle.side.specs.declared.kinds.Kind.{Kind}
 use Rattle.side.specs.declared.kinds.Phase.{Phase}
 use Rattle.side.specs.declared.kinds.System.{System}
@@ -10,7 +10,7 @@ use Rattle.side.specs.declared.kinds.Layer.TheVariants.{Legs}
 use Rattle.side.specs.declared.kinds.Refusal.{Refusal}
 use Rattle.side.specs.Table.{heard_in, told_in}
 use Rattle.side.specs.Signals.{Contents, Heard}
-use Rattle.side.specs.Meaning.{Meaning, Turn}
+use Rattle.side.specs.Meaning.{Meaning}
 
 -- a message written from the front of a buffer and no further
 abbrev pub written : List ℕ → List ℕ → List ℕ

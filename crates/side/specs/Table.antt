@@ -1,6 +1,6 @@
 -- The table of phases: in which phase each kind may be heard and told, and the phase after it.
 -- Rests on nothing but the kinds and the phases.
-use Rattle.std.specs.Prelude.{◌≡◌, ℕ, Bool, true, false, ◌&&◌, ◌⊎◌, nat_le}
+use Rattle.std.specs.Prelude.{ℕ, Bool, false, ◌&&◌, nat_le}
 use Rattle.side.specs.declared.kinds.Kind.{Kind}
 use Rattle.side.specs.declared.kinds.Kind.TheVariants.{Setup, Complete, Progress, Alerting, Answer, Quiet, Clear, Down}
 use Rattle.side.specs.declared.kinds.Phase.{Phase}

@@ -1,5 +1,7 @@
 //! What a signalling side is: kinds, phases, contents and refusals, and the two traits by which the
 //! exchange and the leg book know a signalling system.
+#![tactic(auto)]
+
 ghost use Rattle.std.specs.Prelude.{◌≡◌, ℕ, ◌≤◌, ◌&&◌, List, length, nat_lt};
 ghost use Rattle.std.specs.Borrow.{GName};
 ghost use Rattle.side.specs.Table.{heard_in, told_in};

@@ -1,5 +1,6 @@
 //! The values inside information elements that the digital signalling systems share:
 //! causes, progress, bearer capabilities and types of number.
+#![tactic(auto)]
 
 mod bearers;
 mod causes;

@@ -1,5 +1,5 @@
 -- A list that is written inside an element of another. Assumes nothing.
-use Rattle.std.proofs.Common.{◌≡◌, ℕ, ◌+◌, ◌-◌, ◌<◌, ◌≤◌, List, [], ◌∷◌, ◌++◌, length, take, drop, Some, None, Option, sym, refl, ap, ◌∙◌, subst, arith}
+use Rattle.std.proofs.Common.{◌≡◌, ℕ, ◌+◌, ◌-◌, ◌≤◌, List, ◌++◌, length, take, drop, Some, None, Option, sym, ap, ◌∙◌, arith}
 use Rattle.std.proofs.lemmas.List.{drop-take, drop_at, take-take, take-append-le, length-take-le}
 use Rattle.elements.specs.declared.types.EndRule.{EndRule}
 use Rattle.writer.specs.declared.types.WriteFault.{WriteFault}

@@ -1,8 +1,8 @@
 -- Steps of writing: one after another, into a part of the buffer, and a head put before what stands already. Assumes nothing.
-use Rattle.std.proofs.Common.{◌≡◌, ℕ, ◌+◌, ◌-◌, ◌<◌, ◌≤◌, List, [], ◌∷◌, ◌++◌, length, take, drop, set, sym, refl, ap, ◌∙◌, subst, append_assoc, append-nil, arith, length-append, length-drop, length-set, length-take}
-use lib.Seq.{take-set-lt, take-append-add, drop-append-add}
+use Rattle.std.proofs.Common.{◌≡◌, ℕ, ◌+◌, ◌-◌, ◌<◌, ◌≤◌, List, [], ◌∷◌, ◌++◌, length, take, drop, set, sym, refl, ap, ◌∙◌, subst, append_assoc, append-nil, arith, length-append, length-drop, length-set}
+use lib.Seq.{take-append-add, drop-append-add}
 use borrow.Rule.Slice.PartMut.{put_mid}
-use Rattle.std.proofs.lemmas.List.{take_more_set, drop-set-lt, drop-drop, drop-take, take-take, take-append-drop, drop_all, drop_at, take_at, take_rest, length-take-le, set-append_left}
+use Rattle.std.proofs.lemmas.List.{take_more_set, drop-set-lt, drop-drop, drop-take, take-take, take-append-drop, drop_all, take_rest, length-take-le}
 use Rattle.std.proofs.lemmas.Slice.{take-put_mid, drop-put_mid}
 use Rattle.writer.specs.Written.{element, Adds}
 

@@ -1,6 +1,6 @@
 -- What one step of writing adds to a buffer, and when it is refused.
 -- Rests on the end rule of the coding (which tags are elements) and on lists of octets.
-use Rattle.std.specs.Prelude.{◌≡◌, ℕ, ◌+◌, Bool, cond, ◌||◌, List, [], ◌∷◌, ◌++◌, length, take, drop, Some, None, Option, Result, MatchResult, nat_lt}
+use Rattle.std.specs.Prelude.{◌≡◌, ℕ, ◌+◌, cond, ◌||◌, List, [], ◌∷◌, ◌++◌, length, take, drop, Some, None, Option, Result, MatchResult, nat_lt}
 use Rattle.elements.specs.declared.types.EndRule.{EndRule}
 use Rattle.elements.specs.Elements.{ends_list, stands_alone}
 use Rattle.writer.specs.declared.types.WriteFault.{WriteFault}

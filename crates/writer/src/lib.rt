@@ -2,6 +2,8 @@
 //!
 //! A message being written is open, then listing, then closed. Each state is a value of plain numbers
 //! that the next step takes away; the buffer is lent anew for each step. Only a closed message has a length.
+#![tactic(auto)]
+
 ghost use Rattle.std.specs.Prelude.{◌≡◌, ℕ, ◌+◌, ◌^◌, ◌<◌, ◌≤◌, List, [], ◌∷◌, ◌++◌, length, take, drop, IfNone, Some, None, MatchResult};
 ghost use Rattle.writer.specs.declared.types.WriteFault.TheVariants.{NoRoom};
 ghost use Rattle.writer.specs.Items.{octets_of, written, item_fault, last_of, table_fault, nest_fault};
@@ -167,7 +169,7 @@ impl Open {
 impl<C: Coding> Listing<C> {
     /// An element; its tag is not below the one before.
     pub fn element(self, buf: &mut [u8], tag: u8, contents: &[u8]) -> Result<Listing<C>, WriteFault>
-        ensures { ListStep (element_fault rule self.last self.at tag (length contents.now) (length buf.old)) (element tag contents.now) self.at buf.old buf.new (λ next. next.at) (λ next. next.last) tag result }
+        ensures { ListStep (element_fault C.rule self.last self.at tag (length contents.now) (length buf.old)) (element tag contents.now) self.at buf.old buf.new (λ next. next.at) (λ next. next.last) tag result }
     {
         let Listing { at, last, coding } = self;
         let n = contents.len();
@@ -186,7 +188,7 @@ impl<C: Coding> Listing<C> {
 
     /// An element of one octet, which may stand anywhere.
     pub fn single(self, buf: &mut [u8], tag: u8) -> Result<Listing<C>, WriteFault>
-        ensures { ListStep (single_fault rule self.at tag (length buf.old)) (tag ∷ []) self.at buf.old buf.new (λ next. next.at) (λ next. next.last) self.last result }
+        ensures { ListStep (single_fault C.rule self.at tag (length buf.old)) (tag ∷ []) self.at buf.old buf.new (λ next. next.at) (λ next. next.last) self.last result }
     {
         let Listing { at, last, coding } = self;
         if let Some(fault) = single_fault(C::end_rule(), at, tag, buf.len()) {
@@ -209,7 +211,7 @@ impl<C: Coding> Listing<C> {
 
     /// An element whose contents, a nested list that is closed, stand in their place already.
     pub fn enclose(self, buf: &mut [u8], tag: u8, nested: Closed) -> Result<Listing<C>, WriteFault>
-        ensures { ListStep (element_fault rule self.last self.at tag nested.length (length buf.old)) (element tag (take nested.length (drop (self.at + 2) buf.old))) self.at buf.old buf.new (λ next. next.at) (λ next. next.last) tag result }
+        ensures { ListStep (element_fault C.rule self.last self.at tag nested.length (length buf.old)) (element tag (take nested.length (drop (self.at + 2) buf.old))) self.at buf.old buf.new (λ next. next.at) (λ next. next.last) tag result }
     {
         let Listing { at, last, coding } = self;
         let n = nested.length;
@@ -227,7 +229,7 @@ impl<C: Coding> Listing<C> {
 
     /// Ends the list with the end tag of its coding, if it has one.
     pub fn close(self, buf: &mut [u8]) -> Result<Closed, WriteFault>
-        ensures { Step (room_fault self.at (length (ending rule.end)) (length buf.old)) (ending rule.end) self.at buf.old buf.new (λ closed. closed.length) result }
+        ensures { Step (room_fault self.at (length (ending C.rule.end)) (length buf.old)) (ending C.rule.end) self.at buf.old buf.new (λ closed. closed.length) result }
     {
         let Listing {
             at,
@@ -243,7 +245,7 @@ impl<C: Coding> Listing<C> {
 
     /// What stands against a table of elements and the end of the list; else how far they reach.
     fn measure(&self, items: &[Item<'_>], size: usize) -> Result<usize, WriteFault>
-        ensures { MatchResult result (λ end. (table_fault rule self.now.last self.now.at items.now size ≡ None) × (end ≡ self.now.at + length (written items.now ++ ending rule.end))) (λ e. table_fault rule self.now.last self.now.at items.now size ≡ Some e) }
+        ensures { MatchResult result (λ end. (table_fault C.rule self.now.last self.now.at items.now size ≡ None) × (end ≡ self.now.at + length (written items.now ++ ending C.rule.end))) (λ e. table_fault C.rule self.now.last self.now.at items.now size ≡ Some e) }
     {
         let rule = C::end_rule();
         let mut at = self.at;
@@ -260,7 +262,7 @@ impl<C: Coding> Listing<C> {
 
     /// One entry of a table.
     fn item(self, buf: &mut [u8], item: Item<'_>) -> Result<Listing<C>, WriteFault>
-        ensures { ListStep (item_fault rule self.last self.at item.entry (length buf.old)) (octets_of item.entry) self.at buf.old buf.new (λ next. next.at) (λ next. next.last) (last_of self.last item.entry) result }
+        ensures { ListStep (item_fault C.rule self.last self.at item.entry (length buf.old)) (octets_of item.entry) self.at buf.old buf.new (λ next. next.at) (λ next. next.last) (last_of self.last item.entry) result }
     {
         match item {
             Item::Element(tag, contents) => self.element(buf, tag, contents),
@@ -271,7 +273,7 @@ impl<C: Coding> Listing<C> {
 
     /// A table of elements and the end of the list; all of it, or nothing.
     pub fn close_with(self, buf: &mut [u8], items: &[Item<'_>]) -> Result<Closed, WriteFault>
-        ensures { Step (table_fault rule self.last self.at items.now (length buf.old)) (written items.now ++ ending rule.end) self.at buf.old buf.new (λ closed. closed.length) result }
+        ensures { Step (table_fault C.rule self.last self.at items.now (length buf.old)) (written items.now ++ ending C.rule.end) self.at buf.old buf.new (λ closed. closed.length) result }
     {
         if let Err(fault) = self.measure(items, buf.len()) {
             self.abandon();
@@ -293,7 +295,7 @@ impl<C: Coding> Listing<C> {
         coding: I,
         items: &[Item<'_>],
     ) -> Result<Listing<C>, WriteFault>
-        ensures { ListStep (nest_fault C.Coding.rule I.Coding.rule self.last self.at tag items.now (length buf.old)) (element tag (written items.now ++ ending I.Coding.rule.end)) self.at buf.old buf.new (λ next. next.at) (λ next. next.last) tag result }
+        ensures { ListStep (nest_fault C.rule I.rule self.last self.at tag items.now (length buf.old)) (element tag (written items.now ++ ending I.rule.end)) self.at buf.old buf.new (λ next. next.at) (λ next. next.last) tag result }
     {
         let start = match self.nest_start(buf, tag, coding, items) {
             Ok(start) => start,
@@ -322,7 +324,7 @@ impl<C: Coding> Listing<C> {
         coding: I,
         items: &[Item<'_>],
     ) -> Result<usize, WriteFault>
-        ensures { MatchResult result (λ start. (nest_fault C.Coding.rule I.Coding.rule self.now.last self.now.at tag items.now (length buf.now) ≡ None) × (start ≡ self.now.at + 2) × (start ≤ length buf.now)) (λ e. nest_fault C.Coding.rule I.Coding.rule self.now.last self.now.at tag items.now (length buf.now) ≡ Some e) }
+        ensures { MatchResult result (λ start. (nest_fault C.rule I.rule self.now.last self.now.at tag items.now (length buf.now) ≡ None) × (start ≡ self.now.at + 2) × (start ≤ length buf.now)) (λ e. nest_fault C.rule I.rule self.now.last self.now.at tag items.now (length buf.now) ≡ Some e) }
     {
         let start = self.inside(buf)?;
         let nested = Open::begin().list(coding);

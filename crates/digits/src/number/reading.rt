@@ -1,8 +1,9 @@
-ghost use Rattle.std.specs.Prelude.{◌≡◌, ◌≤◌, length, None, Decides};
+ghost use Rattle.std.specs.Prelude.{◌≡◌, ◌≤◌, ◌==◌, length, None};
 ghost use Rattle.digits.specs.Dialling.{digit_char, stray_from, dialled, characters, held_by};
 ghost use Rattle.std.specs.Cmp.Rules.{comparing};
-ghost use Rattle.std.proofs.Common.{rules, arith};
-ghost use Rattle.std.specs.Cmp as Keys;
+ghost use Rattle.std.proofs.Common.{rules};
+ghost use Rattle.std.specs.Ordering.{on};
+ghost use Rattle.std.specs.Cmp.Lexicographic.{pointwise, on_texts_equal};
 
 use super::Digits;
 use crate::types::{DigitFault, MOST_DIGITS};
@@ -79,9 +80,9 @@ impl Digits {
 }
 
 impl PartialEq for Digits {
-    ghost equals = { λ a b r. Decides r (characters a ≡ characters b) };
+    ghost eq = { on characters (pointwise ◌==◌) };
 
-    ghost laws = { Keys.partial_equiv_from_equiv (first_of (Prim.search (comparing, rules), Prim.grind (arith, Self.row.coded.inj))) };
+    ghost laws = { Prim.search (comparing, rules) };
 
     fn eq(&self, other: &Digits) -> bool {
         self.as_octets() == other.as_octets()
@@ -89,5 +90,5 @@ impl PartialEq for Digits {
 }
 
 impl Eq for Digits {
-    ghost laws = { first_of (Prim.search (comparing, rules), Prim.grind (arith, Self.row.coded.inj)) };
+    ghost laws = { Prim.search (comparing, rules) };
 }

@@ -5,5 +5,5 @@ use Rattle.inspect.proofs.shown.Goals as goal
 pub slice-bounds-result-end : goal.slice-bounds-result-end
 slice-bounds-result-end c = sym (length-take-le 32 c.args.word.now (omega arith))
 
-pub returns-else-word-gt-MOST-SHOWN : goal.returns-else-word-gt-MOST-SHOWN
-returns-else-word-gt-MOST-SHOWN c = sym (take_all 32 c.args.word.now (omega arith))
+pub returns-else-word-gt-MOST_SHOWN : goal.returns-else-word-gt-MOST_SHOWN
+returns-else-word-gt-MOST_SHOWN c = sym (take_all 32 c.args.word.now (omega arith))

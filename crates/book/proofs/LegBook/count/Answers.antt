@@ -4,5 +4,5 @@ use Rattle.book.proofs.LegBook.count.Goals as goal
 
 pub returns : goal.returns
 returns g c =
-    c.min.ensures ∙ ap (min (length c.args.self.now.records.now)) c.leg-limit.ensures
+    c.min.ensures ∙ ap (min (length c.args.self.now.records.now)) c.leg_limit.ensures
     ∙ sym (legs_count g.S.Signalling.meaning.most c.args.self.now.records.now)

@@ -6,20 +6,20 @@ use Rattle.book.proofs.LegBook.get.Goals as goal
 
 pub offset-bounds-records-n : goal.offset-bounds-records-n
 offset-bounds-records-n g c =
-    let h : c.place-of-n.result < length (legs_of g.S.Signalling.meaning.most c.args.self.now.records.now) = omega arith in
-    let i : c.place-of-n.result < length c.args.self.now.records.now = within g.S.Signalling.meaning.most c.args.self.now.records.now _ h in
+    let h : c.place_of-n.result < length (legs_of g.S.Signalling.meaning.most c.args.self.now.records.now) = omega arith in
+    let i : c.place_of-n.result < length c.args.self.now.records.now = within g.S.Signalling.meaning.most c.args.self.now.records.now _ h in
     search rules
 
 pub bounds-records-n : goal.bounds-records-n
 bounds-records-n g c =
-    let h : c.place-of-n.result < length (legs_of g.S.Signalling.meaning.most c.args.self.now.records.now) = omega arith in
+    let h : c.place_of-n.result < length (legs_of g.S.Signalling.meaning.most c.args.self.now.records.now) = omega arith in
     within g.S.Signalling.meaning.most c.args.self.now.records.now _ h
 
 pub returns-then-n-count : goal.returns-then-n-count
 returns-then-n-count g c =
     let most = g.S.Signalling.meaning.most in
     let xs = c.args.self.now.records.now in
-    let h : c.place-of-n.result < length (legs_of most xs) = omega arith in
-    let k : c.args.leg.number < length (legs_of most xs) = omega (arith, c.place-of-n.ensures) in
-    ap Some (leg_get most xs c.place-of-n.result h c.index-records-n.result g.S.Signalling.meaning.blank c.index-records-n.is ∙ ap (λ n. get_or (legs_of most xs) n g.S.Signalling.meaning.blank) c.place-of-n.ensures)
+    let h : c.place_of-n.result < length (legs_of most xs) = omega arith in
+    let k : c.args.leg.number < length (legs_of most xs) = omega (arith, c.place_of-n.ensures) in
+    ap Some (leg_get most xs c.place_of-n.result h c.index-records-n.result g.S.Signalling.meaning.blank c.index-records-n.is ∙ ap (λ n. get_or (legs_of most xs) n g.S.Signalling.meaning.blank) c.place_of-n.ensures)
     ∙ sym (cond-true _ _ _ (lt-ltb _ _ k))

@@ -7,8 +7,8 @@ use Rattle.line.proofs.Places.{place_fits, setup_read_from}
 use Rattle.side.specs.declared.kinds.Reason.TheVariants.{BadValue}
 use Rattle.line.proofs.reading.setup.Goals as goal
 
-pub digit-place-requires : goal.digit-place-requires
-digit-place-requires c = place_fits c.args.message.now c.in-Err.fault c.in-Err.ensures
+pub digit_place-requires : goal.digit_place-requires
+digit_place-requires c = place_fits c.args.message.now c.in-Err.fault c.in-Err.ensures
 
 pub returns-in-Ok : goal.returns-in-Ok
 returns-in-Ok c =
@@ -16,4 +16,4 @@ returns-in-Ok c =
     ∙ setup_read_from c.args.message.now _ c.in-Ok.ensures
 
 pub returns-in-Err : goal.returns-in-Err
-returns-in-Err c = ap Err (c.refuse.ensures ∙ ap (refusal BadValue) c.digit-place.ensures) ∙ setup_read_from c.args.message.now _ c.in-Err.ensures
+returns-in-Err c = ap Err (c.refuse.ensures ∙ ap (refusal BadValue) c.digit_place.ensures) ∙ setup_read_from c.args.message.now _ c.in-Err.ensures

@@ -1,4 +1,4 @@
-use Rattle.std.proofs.Common.{◌≡◌, ℕ, ◌+◌, ◌-◌, ◌≤◌, List, ◌++◌, length, Some, sym, refl, ap, ◌∙◌, subst, arith, rules}
+use Rattle.std.proofs.Common.{◌≡◌, ℕ, ◌+◌, ◌-◌, ◌≤◌, List, ◌++◌, length, sym, refl, ap, ◌∙◌, arith, rules}
 use borrow.Rule.Slice.PartMut.{put_mid}
 use Rattle.std.proofs.lemmas.Result.{MatchResult-weaker}
 use Rattle.writer.specs.Written.{ending, element_fault}
@@ -7,19 +7,19 @@ use Rattle.writer.proofs.Puts.{inside, moved}
 use Rattle.writer.proofs.Nests.{enclosed, holds, never}
 use Rattle.writer.proofs.Listing.nest.Goals as goal
 
-pub returns-in-Ok-close-with : goal.returns-in-Ok-close-with
-returns-in-Ok-close-with g c =
+pub returns-in-Ok-close_with : goal.returns-in-Ok-close_with
+returns-in-Ok-close_with g c =
     let s = c.in-Ok.ensures in
-    let p = c.in-Ok-close-with.ensures in
+    let p = c.in-Ok-close_with.ensures in
     let at : ℕ = c.args.self.at in
-    let n : ℕ = c.in-Ok-close-with.nested.length in
+    let n : ℕ = c.in-Ok-close_with.nested.length in
     let buf : List ℕ = c.args.buf.now in
     let ys : List ℕ = written c.args.items.now ++ ending g.I.Coding.rule.end in
-    let mid : List ℕ = put_mid c.in-Ok.start (length buf - c.in-Ok.start) buf c.close-with.new.buf in
-    let fits : length c.close-with.new.buf ≡ length buf - c.in-Ok.start = search rules in
+    let mid : List ℕ = put_mid c.in-Ok.start (length buf - c.in-Ok.start) buf c.close_with.new.buf in
+    let fits : length c.close_with.new.buf ≡ length buf - c.in-Ok.start = search rules in
     let same : length mid ≡ length buf = search rules in
     let room : at + 2 ≤ length buf = omega arith in
-    let inner = moved s.1 (ap (λ k. k + n) s.1) (inside c.in-Ok.start buf c.close-with.new.buf ys n s.2 fits (moved (c.list.ensures.0 ∙ c.begin.ensures) refl p.adds)) in
+    let inner = moved s.1 (ap (λ k. k + n) s.1) (inside c.in-Ok.start buf c.close_with.new.buf ys n s.2 fits (moved (c.list.ensures.0 ∙ c.begin.ensures) refl p.adds)) in
     let long : n ≡ length ys = omega (arith, inner.count) in
     MatchResult-weaker c.enclose.result c.enclose.ensures
     (λ x q. (record { fine = s.0; adds = enclosed ys buf mid _ at n _ c.args.tag room inner q.0.adds }, q.1))

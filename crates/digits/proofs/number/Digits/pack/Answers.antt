@@ -9,7 +9,7 @@ loop-n-preserved c =
     let d = c.args.self.now in
     let ss = ended (characters c.args.self.now) in
     let n = c.loop-n.n in
-    let here : c.loop-n.n < length (packed (ended (characters c.args.self.now))) = omega (arith, c.packed-len-needed.ensures.whole, c.loop-n-test.true) in
+    let here : c.loop-n.n < length (packed (ended (characters c.args.self.now))) = omega (arith, c.packed_len-needed.ensures.whole, c.loop-n-test.true) in
     let room : c.loop-n.n < length c.loop-n.out = search rules in
     let is : c.pair.result ≡ get_or (packed (ended (characters c.args.self.now))) c.loop-n.n 0 =
     c.pair.ensures
@@ -21,5 +21,5 @@ loop-n-preserved c =
 
 pub returns : goal.returns
 returns c =
-    all_packed (packed (ended (characters c.args.self.now))) c.loop-n.out c.args.out.now c.packed-len-needed.result c.loop-n.n
-    c.packed-len-needed.ensures.whole c.loop-n-test.false c.loop-n.auto.n-end c.loop-n.invariant.0 c.loop-n.invariant.1
+    all_packed (packed (ended (characters c.args.self.now))) c.loop-n.out c.args.out.now c.packed_len-needed.result c.loop-n.n
+    c.packed_len-needed.ensures.whole c.loop-n-test.false c.loop-n.auto.n-end c.loop-n.invariant.0 c.loop-n.invariant.1

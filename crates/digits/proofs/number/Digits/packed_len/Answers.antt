@@ -6,7 +6,7 @@ use Rattle.digits.proofs.number.Digits.packed_len.Goals as goal
 
 pub returns : goal.returns
 returns c = record {
-  octets = omega (arith, c.octets-for.ensures, length_characters c.args.self.now);
-  whole = omega (arith, c.octets-for.ensures, length_characters c.args.self.now, length_packed_ended (characters c.args.self.now));
+  octets = omega (arith, c.octets_for.ensures, length_characters c.args.self.now);
+  whole = omega (arith, c.octets_for.ensures, length_characters c.args.self.now, length_packed_ended (characters c.args.self.now));
   most = search rules;
 }

@@ -4,14 +4,14 @@ use Rattle.digits.specs.Dialling.{stray_from, digit_char}
 use Rattle.digits.proofs.Steps.{stray_at}
 use Rattle.digits.proofs.number.reading.first_stray.Goals as goal
 
-pub returns-then-not-is-digit : goal.returns-then-not-is-digit
-returns-then-not-is-digit c =
-    let e = c.if-not-is-digit.ensures ∙ ap digit_char c.from.ensures in
+pub returns-then-not-is_digit : goal.returns-then-not-is_digit
+returns-then-not-is_digit c =
+    let e = c.if-not-is_digit.ensures ∙ ap digit_char c.from.ensures in
     sym (stray_at c.args.text.now c.loop-k.k c.loop-k-test.true false e) ∙ c.loop-k.invariant
 
 pub loop-k-preserved : goal.loop-k-preserved
 loop-k-preserved c =
-    let e = c.if-not-is-digit.ensures ∙ ap digit_char c.from.ensures in
+    let e = c.if-not-is_digit.ensures ∙ ap digit_char c.from.ensures in
     sym (stray_at c.args.text.now c.loop-k.k c.loop-k-test.true true e) ∙ c.loop-k.invariant
 
 pub returns : goal.returns

@@ -8,5 +8,5 @@ use Rattle.side.proofs.parts.building.append.Goals as goal
 pub returns-in-Some : goal.returns-in-Some
 returns-in-Some c =
     let end = c.args.at + length c.in-Some.contents.now in
-    subst (λ o. Adds (came o) c.args.at c.args.octets.now end (put_mid c.args.at (end - c.args.at) c.args.octets.now c.copy-from-slice.new.self)) (sym c.in-Some.is)
-    (copied c.args.octets.now c.in-Some.contents.now _ c.args.at _ refl (search rules) c.copy-from-slice.ensures.after)
+    subst (λ o. Adds (came o) c.args.at c.args.octets.now end (put_mid c.args.at (end - c.args.at) c.args.octets.now c.copy_from_slice.new.self)) (sym c.in-Some.is)
+    (copied c.args.octets.now c.in-Some.contents.now _ c.args.at _ refl (search rules) c.copy_from_slice.ensures.after)
