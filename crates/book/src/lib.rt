@@ -26,7 +26,7 @@ fn place_of(leg: Leg) -> usize
 impl<'a, S: Signalling> LegBook<'a, S> {
     /// Opens a side over records: as many legs as there are, up to the most, all blank; the others stay as they are.
     pub fn open(records: &'a mut [S::Record]) -> LegBook<'a, S>
-        ensures records { result.records.now ≡ opened meaning.most meaning.blank records.old }
+        ensures records { result.records.now ≡ opened S.meaning.most S.meaning.blank records.old }
         ensures lender { result.records.ghost_name ≡ records.entry.ghost_name }
     {
         let n = records.len().min(S::leg_limit());
@@ -40,14 +40,14 @@ impl<'a, S: Signalling> LegBook<'a, S> {
 
     /// How many legs there are.
     fn count(&self) -> usize
-        ensures { result ≡ length (legs_of meaning.most self.now.records.now) }
+        ensures { result ≡ length (legs_of S.meaning.most self.now.records.now) }
     {
         self.records.len().min(S::leg_limit())
     }
 
     /// The record of a leg, if it is there.
     fn get(&self, leg: Leg) -> Option<S::Record>
-        ensures { result ≡ (if nat_lt leg.number (length (legs_of meaning.most self.now.records.now)) then Some (slice_index_or (legs_of meaning.most self.now.records.now) leg.number meaning.blank) else None) }
+        ensures { result ≡ (if nat_lt leg.number (length (legs_of S.meaning.most self.now.records.now)) then Some (slice_index_or (legs_of S.meaning.most self.now.records.now) leg.number S.meaning.blank) else None) }
     {
         let n = place_of(leg);
         if n < self.count() {
@@ -60,9 +60,9 @@ impl<'a, S: Signalling> LegBook<'a, S> {
 
     /// Writes a leg's record whole in its place.
     fn put(&mut self, leg: Leg, next: S::Record)
-        requires { leg.number < length (legs_of meaning.most self.old.records.now) }
-        ensures legs { legs_of meaning.most self.new.records.now ≡ slice_set (legs_of meaning.most self.old.records.now) leg.number next }
-        ensures rest { drop meaning.most self.new.records.now ≡ drop meaning.most self.old.records.now }
+        requires { leg.number < length (legs_of S.meaning.most self.old.records.now) }
+        ensures legs { legs_of S.meaning.most self.new.records.now ≡ slice_set (legs_of S.meaning.most self.old.records.now) leg.number next }
+        ensures rest { drop S.meaning.most self.new.records.now ≡ drop S.meaning.most self.old.records.now }
         ensures lender { self.new.records.ghost_name ≡ self.old.records.ghost_name }
     {
         let n = place_of(leg);
@@ -75,13 +75,13 @@ impl<'a, S: Signalling> Side for LegBook<'a, S> {
 
     const MOST_LEGS: usize = S::MOST_LEGS;
 
-    ghost meaning = { S.Signalling.meaning };
+    ghost meaning = { S.meaning };
 
-    ghost records = { λ s. legs_of S.Signalling.meaning.most s.records.now };
+    ghost records = { λ s. legs_of S.meaning.most s.records.now };
 
-    ghost beyond = { λ s. drop S.Signalling.meaning.most s.records.now };
+    ghost beyond = { λ s. drop S.meaning.most s.records.now };
 
-    ghost few = { λ s. legs_few S.Signalling.meaning.most s.records.now };
+    ghost few = { λ s. legs_few S.meaning.most s.records.now };
 
     ghost lender = { λ s. s.records.ghost_name };
 

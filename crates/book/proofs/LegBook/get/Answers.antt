@@ -4,8 +4,8 @@ use Rattle.book.specs.Legs.{legs_of}
 use Rattle.book.proofs.Fills.{within, leg_get}
 use Rattle.book.proofs.LegBook.get.Goals as goal
 
-pub offset-bounds-records-n : goal.offset-bounds-records-n
-offset-bounds-records-n g c =
+pub offset_bounds-records-n : goal.offset_bounds-records-n
+offset_bounds-records-n g c =
     let h : c.place_of-n.result < length (legs_of g.S.Signalling.meaning.most c.args.self.now.records.now) = omega arith in
     let i : c.place_of-n.result < length c.args.self.now.records.now = within g.S.Signalling.meaning.most c.args.self.now.records.now _ h in
     search rules

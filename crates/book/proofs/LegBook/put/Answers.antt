@@ -3,8 +3,8 @@ use Rattle.book.specs.Legs.{legs_of}
 use Rattle.book.proofs.Fills.{within, leg_put, rest_put}
 use Rattle.book.proofs.LegBook.put.Goals as goal
 
-pub offset-bounds-self-n : goal.offset-bounds-self-n
-offset-bounds-self-n g c =
+pub offset_bounds-self-n : goal.offset_bounds-self-n
+offset_bounds-self-n g c =
     let i = within g.S.Signalling.meaning.most c.args.self.now.records.now c.args.leg.number c.requires in
     let h : c.place_of-n.result < length c.args.self.now.records.now = omega (arith, c.place_of-n.ensures) in
     search rules

@@ -10,8 +10,8 @@ use Rattle.book.proofs.LegBookSide.tell.Goals as goal
 pub put-requires : goal.put-requires
 put-requires g c = (found (legs_of g.S.Signalling.meaning.most c.args.self.now.records.now) _ _ _ c.in-Some.ensures).0
 
-pub returns-in_err-next : goal.returns-in_err-next
-returns-in_err-next g c =
+pub returns-in_err-next-in-Some : goal.returns-in_err-next-in-Some
+returns-in_err-next-in-Some g c =
     let p = err_from_is_err_and c.from_residual.result c.from_residual.ensures.1 in
     let M = g.S.Signalling.meaning in
     let rs = legs_of M.most c.args.self.now.records.now in
@@ -23,11 +23,11 @@ returns-in_err-next g c =
     let same = there.1 in
     let row = row_there l (length rs) (told_in k (M.callable l) (M.phase_of (record_at M rs l))) M.system (length buffer) there.0
     ∙ ap (λ q. row_fault M.system (length buffer) (told_in k (M.callable l) (M.phase_of q))) (sym same) in
-    let x = c.in_err-next.ensures in
+    let x = c.in_err-next-in-Some.ensures in
     rw (p.1, p.2) (record { did = balks M rs l _ _ _ buffer _ _ (row ∙ x.0) x.1; beyond = refl; lender = refl })
 
-pub returns-in_ok-next : goal.returns-in_ok-next
-returns-in_ok-next g c =
+pub returns-in_ok-next-in-Some : goal.returns-in_ok-next-in-Some
+returns-in_ok-next-in-Some g c =
     let M = g.S.Signalling.meaning in
     let rs = legs_of M.most c.args.self.now.records.now in
     let k = kind_of c.args.signal.now in
@@ -38,7 +38,7 @@ returns-in_ok-next g c =
     let same = there.1 in
     let row = row_there l (length rs) (told_in k (M.callable l) (M.phase_of (record_at M rs l))) M.system (length buffer) there.0
     ∙ ap (λ q. row_fault M.system (length buffer) (told_in k (M.callable l) (M.phase_of q))) (sym same) in
-    let x = c.in_ok-next.ensures in
+    let x = c.in_ok-next-in-Some.ensures in
     record {
       did = settles M rs l _ _ _ buffer _ _ _ _ (row ∙ x.0) (x.1 ∙ ap (λ q. M.told l q k said) same) c.put.ensures.legs (x.2 ∙ ap (λ q. length (M.tells l (M.phase_of q) k said).octets) same) (x.3 ∙ ap (λ q. written (M.tells l (M.phase_of q) k said).octets buffer) same);
       beyond = c.put.ensures.rest;

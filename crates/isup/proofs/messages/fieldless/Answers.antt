@@ -8,5 +8,5 @@ use Rattle.isup.proofs.messages.fieldless.Goals as goal
 pub returns : goal.returns
 returns c =
     subst (λ l. Wrote (message_of c.args.fixed.now [] l) c.args.out.now c.write.new.out c.write.result)
-    (optional_is c.as-octets.result.now (option_map progress_of c.args.progress) c.args.parts.now [] (c.as-octets.ensures.value ∙ c.progress-piece-progress.ensures.value))
+    (optional_is c.as_octets.result.now (option_map progress_of c.args.progress) c.args.parts.now [] (c.as_octets.ensures.value ∙ c.progress_piece-progress.ensures.value))
     c.write.ensures

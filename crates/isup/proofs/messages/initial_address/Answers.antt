@@ -12,9 +12,9 @@ pub returns : goal.returns
 returns c =
     let s = c.args.setup.now in
     let list =
-    ap (λ l. listed (optional_of c.as-octets-2.result.now s.parts l)) c.as-octets-3.ensures
-    ∙ optional_is c.as-octets-2.result.now (option_map progress_of s.progress) s.parts (bearer_of s.bearer) (c.as-octets-2.ensures.value ∙ c.progress-piece-progress.ensures.value) in
+    ap (λ l. listed (optional_of c.as_octets-2.result.now s.parts l)) c.as_octets-3.ensures
+    ∙ optional_is c.as_octets-2.result.now (option_map progress_of s.progress) s.parts (bearer_of s.bearer) (c.as_octets-2.ensures.value ∙ c.progress_piece-progress.ensures.value) in
     subst (λ o. Wrote o c.args.out.now c.write.new.out c.write.result)
-    (iam_is _ _ _ _ c.args.leg.number _ _ _ (number_field (Some (number_of s.number))) _ _ c.octet.ensures.is c.args.leg.few c.octet-2.ensures c.isdn-octet.ensures c.medium.ensures
-    (c.as-octets.ensures.value ∙ c.number-piece-number.ensures) list)
+    (iam_is _ _ _ _ c.args.leg.number _ _ _ (number_field (Some (number_of s.number))) _ _ c.octet.ensures.is c.args.leg.few c.octet-2.ensures c.isdn_octet.ensures c.medium.ensures
+    (c.as_octets.ensures.value ∙ c.number_piece-number.ensures) list)
     c.write.ensures

@@ -9,5 +9,5 @@ pub returns : goal.returns
 returns c =
     subst (λ o. Wrote o c.args.out.now c.write.new.out c.write.result)
     (rel_is _ _ c.args.leg.number _ (cause_octets (Some (cause_of c.args.cause))) _ _ c.octet.ensures.is c.args.leg.few c.octet-2.ensures
-    (c.as-octets.ensures.value ∙ c.cause-piece-cause.ensures) (optional_is [] None c.args.parts.now [] refl))
+    (c.as_octets.ensures.value ∙ c.cause_piece-cause.ensures) (optional_is [] None c.args.parts.now [] refl))
     c.write.ensures

@@ -16,6 +16,6 @@ returns c = record {
       c.entry.result c.entry-2.result c.entry-3.result c.entry-4.result c.entry-5.result
       c.entry.ensures c.entry-2.ensures c.entry-3.ensures c.entry-4.ensures c.entry-5.ensures
       c.calling.ensures c.called.ensures c.low.ensures c.high.ensures
-      _ _ _ _ c.if-no-access.ensures c.in-Ok.ensures.0.adds;
+      _ _ _ _ c.if-no_access.ensures c.in-Ok.ensures.0.adds;
   last = omega (arith, c.in-Ok.ensures.1);
 }

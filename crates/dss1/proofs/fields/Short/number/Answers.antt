@@ -2,16 +2,16 @@ use Rattle.std.proofs.Common.{◌≡◌, suc, ◌+◌, ◌-◌, ◌*◌, ◌≤�
 use Rattle.dss1.proofs.Shorts.{laid_room, first_then, front_short}
 use Rattle.dss1.proofs.fields.Short.number.Goals as goal
 
-pub invariant-of-result : goal.invariant-of-result
-invariant-of-result c =
+pub invariant_of-result : goal.invariant_of-result
+invariant_of-result c =
     let d = c.args.number.now.digits in
     let room = d.room in
-    let k = front_short d.count 20 c.as-octets-digits.result.now d.octets c.as-octets-digits.ensures d.most (omega arith) in
-    let most : 1 + length c.as-octets-digits.result.now ≤ 21 = omega arith in
-    let same : 1 + length c.as-octets-digits.result.now - 1 ≡ length c.as-octets-digits.result.now = omega arith in
-    (ap suc (laid_room c.copy-from-slice.new.self (0 ∷ 0 ∷ 0 ∷ 0 ∷ 0 ∷ 0 ∷ 0 ∷ 0 ∷ 0 ∷ 0 ∷ 0 ∷ 0 ∷ 0 ∷ 0 ∷ 0 ∷ 0 ∷ 0 ∷ 0 ∷ 0 ∷ 0 ∷ []) (length c.as-octets-digits.result.now) _ (ap length c.copy-from-slice.ensures.after) same k), (most, tt))
+    let k = front_short d.count 20 c.as_octets-digits.result.now d.octets c.as_octets-digits.ensures d.most (omega arith) in
+    let most : 1 + length c.as_octets-digits.result.now ≤ 21 = omega arith in
+    let same : 1 + length c.as_octets-digits.result.now - 1 ≡ length c.as_octets-digits.result.now = omega arith in
+    (ap suc (laid_room c.copy_from_slice.new.self (0 ∷ 0 ∷ 0 ∷ 0 ∷ 0 ∷ 0 ∷ 0 ∷ 0 ∷ 0 ∷ 0 ∷ 0 ∷ 0 ∷ 0 ∷ 0 ∷ 0 ∷ 0 ∷ 0 ∷ 0 ∷ 0 ∷ 0 ∷ []) (length c.as_octets-digits.result.now) _ (ap length c.copy_from_slice.ensures.after) same k), (most, tt))
 
 pub returns : goal.returns
 returns c =
-    first_then _ _ c.copy-from-slice.new.self _ _ _ (ap (λ n. 128 + 16 * n + 1) c.code.ensures.is)
-    (c.copy-from-slice.ensures.after ∙ c.as-octets-digits.ensures) (ap (λ l. 1 + length l) c.as-octets-digits.ensures)
+    first_then _ _ c.copy_from_slice.new.self _ _ _ (ap (λ n. 128 + 16 * n + 1) c.code.ensures.is)
+    (c.copy_from_slice.ensures.after ∙ c.as_octets-digits.ensures) (ap (λ l. 1 + length l) c.as_octets-digits.ensures)
