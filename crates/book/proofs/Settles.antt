@@ -1,10 +1,10 @@
 -- From what becomes of one record to what becomes of a side. Assumes nothing.
-use Rattle.std.proofs.Common.{◌≡◌, ℕ, ◌<◌, ◌≤◌, Bool, true, false, cond, ◌&&◌, ltb, List, length, get_or, set, Some, None, Ok, Err, Option, Result, sym, refl, ap, ◌∙◌, subst, arith}
+use Rattle.std.proofs.Common.{◌≡◌, ℕ, ◌<◌, Bool, true, false, cond, ◌&&◌, ltb, List, length, get_or, set, Some, None, Ok, Err, Option, sym, refl, ap, ◌∙◌, subst, arith}
 use Rattle.std.proofs.lemmas.Bool.{lt-ltb, ltb-true}
 use Rattle.side.specs.declared.kinds.Refusal.{Refusal}
 use Rattle.side.specs.declared.kinds.System.{System}
 use Rattle.side.specs.Meaning.{Meaning}
-use Rattle.side.specs.Steps.{written, row_fault, settled, After, Did}
+use Rattle.side.specs.Steps.{written, row_fault, settled, Did}
 
 -- a leg that was found is there, and the record is its own
 pub found : {R : Type 0} (rs : List R) (l : ℕ) (d r : R) → Some r ≡ cond (ltb l (length rs)) (Some (get_or rs l d)) None → (l < length rs) × (r ≡ get_or rs l d)

@@ -1,6 +1,5 @@
 -- What the writer makes of a table of references, and that nothing stands against it. Assumes nothing.
-use Rattle.std.proofs.Common.{◌≡◌, ℕ, ◌+◌, ◌-◌, ◌<◌, ◌≤◌, Bool, true, false, cond, ◌||◌, eqb, ltb, List, [], ◌∷◌, ◌++◌, length, take, Some, None, Option, sym, refl, ap, ◌∙◌, append_assoc, arith, length-append, Bor}
-use Rattle.std.proofs.lemmas.Bool.Decides.{nat_tests}
+use Rattle.std.proofs.Common.{◌≡◌, ℕ, ◌+◌, ◌-◌, ◌<◌, ◌≤◌, Bool, true, false, cond, ◌||◌, eqb, List, [], ◌∷◌, ◌++◌, length, take, Some, None, sym, refl, ap, ◌∙◌, append_assoc, arith, length-append, Bor}
 use Rattle.std.proofs.lemmas.Bool.{cond-false, le-ltb}
 use Rattle.elements.specs.declared.types.EndRule.{EndRule}
 use Rattle.elements.specs.Elements.{ends_list, stands_alone}
@@ -8,8 +7,8 @@ use Rattle.writer.specs.declared.types.Item.{Item}
 use Rattle.writer.specs.declared.types.Item.TheVariants.{Element, Absent}
 use Rattle.writer.specs.declared.types.WriteFault.{WriteFault}
 use Rattle.writer.specs.Written.{element, ending, room_fault, element_fault, Adds}
-use Rattle.writer.specs.Items.{octets_of, written, last_of, item_fault, or_else, table_fault, nest_fault}
-use Rattle.entries.specs.Entries.{Entry, entry_octets, listed, entry_item, Ascending}
+use Rattle.writer.specs.Items.{octets_of, written, or_else, table_fault, nest_fault}
+use Rattle.entries.specs.Entries.{entry_octets, listed, entry_item, Ascending}
 use Rattle.entries.specs.Rows.{items_of, entries_of}
 
 -- an item's octets are its entry's

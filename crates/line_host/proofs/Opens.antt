@@ -1,15 +1,15 @@
 -- One message on lines that were opened just before, from what opening and taking say. Assumes nothing.
-use Rattle.std.proofs.Common.{◌≡◌, ℕ, ◌<◌, ◌≤◌, min, ◌⊎◌, List, ◌++◌, length, take, drop, replicate, Ok, Err, Result, sym, refl, ap, ◌∙◌, inl, inr, arith, length-append, length-drop}
+use Rattle.std.proofs.Common.{◌≡◌, ℕ, ◌<◌, ◌≤◌, min, ◌⊎◌, List, length, drop, replicate, Ok, Err, sym, ap, ◌∙◌, inl, inr, arith, length-append, length-drop}
 use lib.ListN.{length-replicate}
 use Rattle.std.proofs.lemmas.List.{drop_at, drop_all}
 use Rattle.std.proofs.lemmas.Bool.{cases_lt}
 use Rattle.side.specs.declared.kinds.Refusal.{Refusal}
 use Rattle.side.specs.declared.records.LineRecord.{LineRecord}
 use Rattle.side.specs.Signals.{Heard}
-use Rattle.side.specs.Steps.{After, take_step}
+use Rattle.side.specs.Steps.{take_step}
 use Rattle.book.specs.Legs.{legs_of, opened}
 use Rattle.line_meaning.proofs.Laws.{meaning_of_lines}
-use Rattle.line_host.specs.Fresh.{fresh, after, one_message}
+use Rattle.line_host.specs.Fresh.{after, one_message}
 
 module _ (rs xs : List LineRecord) (e : xs ≡ opened 32 meaning_of_lines.blank rs) (message buffer : List ℕ) where
   pub took : (h : Heard) → Ok h ≡ meaning_of_lines.reads (length (legs_of 32 xs)) message → take_step meaning_of_lines (legs_of 32 xs) h buffer ≡ one_message rs message buffer

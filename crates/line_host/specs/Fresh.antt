@@ -1,6 +1,6 @@
 -- One message on lines that were opened just before.
 -- Rests on the meaning of lines and on what opening leaves of records.
-use Rattle.std.specs.Prelude.{ℕ, List, length, take, Ok, Err, Result}
+use Rattle.std.specs.Prelude.{ℕ, List, length, Ok, Err, Result}
 use Rattle.side.specs.declared.kinds.Refusal.{Refusal}
 use Rattle.side.specs.declared.records.LineRecord.{LineRecord}
 use Rattle.side.specs.Signals.{Heard}

@@ -1,8 +1,6 @@
 -- The laws of the line side. Assumes nothing.
-use Rattle.std.proofs.Common.{◌≡◌, ℕ, ◌+◌, ◌-◌, ◌<◌, ◌≤◌, Bool, true, false, cond, ◌&&◌, eqb, ltb, leb, ◌⊎◌, ◌↔◌, List, [], ◌∷◌, ◌++◌, length, get_or, drop, Some, None, Ok, Err, Option, Result, sym, refl, ap, ◌∙◌, subst, inl, inr, arith, lit<, lit≤}
-use Rattle.std.proofs.lemmas.Bool.{ltb-true, ltb-false, eqb-true, eqb-false, and_parts}
-use Rattle.std.proofs.lemmas.Bool.Decides.{nat_tests as tests}
-use Rattle.values.specs.declared.types.NumberType.{NumberType}
+use Rattle.std.proofs.Common.{◌≡◌, ℕ, ◌-◌, ◌<◌, ◌≤◌, Bool, true, false, cond, ◌&&◌, eqb, ltb, ◌↔◌, List, [], ◌∷◌, length, get_or, drop, Some, None, Ok, Err, Option, Result, sym, refl, ap, ◌∙◌, subst, inl, arith, lit<, lit≤}
+use Rattle.std.proofs.lemmas.Bool.{ltb-true, ltb-false, eqb-false, and_parts}
 use Rattle.values.specs.declared.types.NumberType.TheVariants.{Unknown}
 use Rattle.digits.specs.declared.types.DigitFault.{DigitFault}
 use Rattle.digits.specs.declared.types.DigitFault.TheVariants.{NoDigits, TooMany, NotADigit}
@@ -15,10 +13,10 @@ use Rattle.side.specs.declared.kinds.Phase.TheVariants.{Idle}
 use Rattle.side.specs.declared.kinds.System.TheVariants.{Line}
 use Rattle.side.specs.declared.kinds.Reason.TheVariants.{Malformed, UnknownType, NoSuchLeg, BadValue}
 use Rattle.side.specs.declared.kinds.Refusal.{Refusal}
-use Rattle.side.specs.Table.{heard_in, told_in, heard_to, told_to}
+use Rattle.side.specs.Table.{heard_in, heard_to}
 use Rattle.side.specs.Signals.{Contents, Heard, empty}
 use Rattle.side.specs.Contents.{Part}
-use Rattle.side.specs.Meaning.{Meaning, Within, PartsWithin, HeardTo, reason_number, keep, Turn, Far}
+use Rattle.side.specs.Meaning.{Meaning, Within, PartsWithin, HeardTo, reason_number, keep}
 use Rattle.side.specs.declared.records.LineRecord.{LineRecord}
 use Rattle.line_meaning.specs.Lines as line
 use Rattle.line_meaning.specs.Lines.{headed, event_kind, setup_of, others_of, heard_as, setup_read, other_read, body_read, event_read, told_event, told_octets, far_kind}

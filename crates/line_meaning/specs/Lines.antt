@@ -1,6 +1,6 @@
 -- The messages of analogue lines: what is read, what is refused and where, what is written, what is kept.
 -- Rests on the kinds, the table of phases and the rule of dialled digits.
-use Rattle.std.specs.Prelude.{◌≡◌, ℕ, ◌+◌, ◌-◌, Bool, true, false, cond, not, ◌&&◌, ◌||◌, List, [], ◌∷◌, ◌++◌, length, drop, Some, None, Ok, Err, Option, Result, ◌==◌, nat_le, nat_lt, slice_index}
+use Rattle.std.specs.Prelude.{ℕ, ◌+◌, ◌-◌, Bool, true, false, cond, ◌&&◌, List, [], ◌∷◌, ◌++◌, length, drop, Some, None, Ok, Err, Option, Result, ◌==◌, nat_le, nat_lt, slice_index}
 use Rattle.values.specs.declared.types.NumberType.{NumberType}
 use Rattle.values.specs.declared.types.NumberType.TheVariants.{Unknown}
 use Rattle.digits.specs.declared.types.DigitFault.{DigitFault}

@@ -34,7 +34,7 @@ fn reads(
     match reading.signal {
         Signal::Setup(setup) => {
             assert_eq!(rt; setup.number.kind, NumberType::Unknown);
-            assert_eq!(rt; setup.bearer.as_octets(), &[0x90, 0x90, 0xA3]);
+            assert_eq!(rt; setup.bearer.as_octets(), [0x90, 0x90, 0xA3].as_slice());
             assert!(rt; !setup.isdn && setup.progress.is_none());
             assert_eq!(rt; setup.number.digits.as_octets(), number);
             Ok(())

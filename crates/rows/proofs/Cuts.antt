@@ -1,5 +1,5 @@
 -- A cut tells both legs of a standing call, and parts them. Assumes the laws of the two sides.
-use Rattle.std.proofs.Common.{◌≡◌, ℕ, true, leb, List, [], length, Some, sym, refl, ap, ◌∙◌, subst, arith, eqb→eq}
+use Rattle.std.proofs.Common.{◌≡◌, ℕ, true, leb, List, [], length, Some, sym, refl, ap, ◌∙◌, subst, eqb→eq}
 use Rattle.side.specs.declared.kinds.Kind.TheVariants.{Clear}
 use Rattle.side.specs.declared.kinds.Phase.{Phase}
 use Rattle.side.specs.Table.{told_in}

@@ -1,6 +1,6 @@
 -- A member is refused exactly where something stands against it: a partner always has a row for what it is told.
 -- Assumes that the state is sound.
-use Rattle.std.proofs.Common.{◌≡◌, ℕ, Bool, true, false, ◌&&◌, ltb, leb, List, Some, None, Option, refl, arith}
+use Rattle.std.proofs.Common.{◌≡◌, ℕ, Bool, true, false, ◌&&◌, ltb, leb, List, Some, None, Option, refl}
 use Rattle.side.specs.declared.kinds.Kind.{Kind}
 use Rattle.side.specs.declared.kinds.Kind.TheVariants.{Setup, Clear}
 use Rattle.side.specs.Table.{heard_in, told_in, between}

@@ -1,4 +1,4 @@
-use Rattle.std.proofs.Common.{◌≡◌, ◌<◌, min, length, sym, refl, ap, ◌∙◌, arith, rules}
+use Rattle.std.proofs.Common.{◌≡◌, ◌<◌, min, length, refl, arith, rules}
 use Rattle.book.proofs.Fills.{fill_next, filled}
 use Rattle.book.proofs.LegBook.open.Goals as goal
 

@@ -1,4 +1,4 @@
-use Rattle.std.proofs.Common.{◌≡◌, ◌<◌, length, drop, set, sym, refl, ap, ◌∙◌, arith, rules}
+use Rattle.std.proofs.Common.{◌<◌, length, drop, set, refl, ap, ◌∙◌, arith, rules}
 use Rattle.book.specs.Legs.{legs_of}
 use Rattle.book.proofs.Fills.{within, leg_put, rest_put}
 use Rattle.book.proofs.LegBook.put.Goals as goal

@@ -1,4 +1,4 @@
-use Rattle.std.proofs.Common.{◌≡◌, false, length, drop, set, sym, refl, ap, ◌∙◌}
+use Rattle.std.proofs.Common.{false, length, sym, refl, ap, ◌∙◌}
 use Rattle.std.proofs.lemmas.Result.{err_from_is_err_and}
 use Rattle.side.specs.Signals.{heard_of}
 use Rattle.side.specs.Table.{heard_in}

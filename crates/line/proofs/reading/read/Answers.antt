@@ -1,4 +1,4 @@
-use Rattle.std.proofs.Common.{◌≡◌, get_or, Ok, sym, refl, ap, ◌∙◌}
+use Rattle.std.proofs.Common.{get_or, Ok, ap, ◌∙◌}
 use Rattle.std.proofs.lemmas.Result.{err_from_is_err_and}
 use Rattle.side.specs.Signals.{kind_of, contents_of}
 use Rattle.line.proofs.Places.{whole, leg_found}

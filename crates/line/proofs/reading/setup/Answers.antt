@@ -1,4 +1,4 @@
-use Rattle.std.proofs.Common.{◌≡◌, false, Some, None, Err, sym, refl, ap, ◌∙◌}
+use Rattle.std.proofs.Common.{false, Some, None, Err, ap, ◌∙◌}
 use Rattle.values.specs.declared.types.NumberType.TheVariants.{Unknown}
 use Rattle.side.specs.declared.kinds.Kind.TheVariants as kind
 use Rattle.digits.specs.Dialling.{characters}
