@@ -1,6 +1,9 @@
 -- Progress and the carried parts in a list of DSS 1 elements, and where values outside their rule are refused.
 -- Rests on the reader's definitions, on the limits of parts and on contents seen from outside.
-use Rattle.std.specs.Prelude.{ℕ, ◌+◌, Bool, cond, ◌||◌, List, [], ◌∷◌, length, Some, None, Option, ◌==◌, nat_le}
+use Rattle.std.specs.Prelude.{ℕ, ◌+◌, Bool, cond, ◌||◌, List, [], ◌∷◌, length, Some, None, Ok, Err, Option, Result, ◌==◌, nat_le}
+use Rattle.values.specs.declared.types.Capability.{Capability}
+use Rattle.values.specs.declared.types.BearerFault.{BearerFault}
+use Rattle.values.specs.Bearers.{bearer_in}
 use Rattle.elements.specs.declared.types.EndRule.{EndRule}
 use Rattle.elements.specs.Elements.{place_of}
 use Rattle.entries.specs.Codings.{dss1}
@@ -55,6 +58,15 @@ progress_octets (Some p) = p.0 ∷ p.1 ∷ []
 abbrev pub cause_octets : Option (ℕ × ℕ) → List ℕ
 cause_octets None = []
 cause_octets (Some c) = (0x80 + c.0) ∷ (0x80 + c.1) ∷ []
+
+-- the bearer that a told setup asks for: its own; where that is none that is served, 3.1 kHz audio. No setup that the
+-- code can hold has such a bearer, but the tables answer for all contents
+abbrev pub served_or : Result Capability BearerFault → List ℕ → List ℕ
+served_or (Ok capability) bearer = bearer
+served_or (Err fault) bearer = 0x90 ∷ 0x90 ∷ 0xA3 ∷ []
+
+abbrev pub told_bearer : List ℕ → List ℕ
+told_bearer bearer = served_or (bearer_in bearer) bearer
 
 -- the place of a tag that is there, in a list that begins at a place of the message
 abbrev pub or_zero : Option ℕ → ℕ

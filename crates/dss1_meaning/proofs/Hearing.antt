@@ -1,5 +1,5 @@
 -- What reading a message of DSS 1 gives: a leg that is there and contents within their limits, or a refusal of the message. Assumes nothing.
-use Rattle.std.proofs.Common.{◌≡◌, ℕ, ◌+◌, ◌-◌, ◌/◌, ◌%◌, ◌<◌, ◌≤◌, Bool, true, false, cond, not, ◌&&◌, ◌||◌, eqb, ltb, leb, List, [], ◌∷◌, length, get_or, drop, is_some, is_ok, Some, None, Ok, Err, Option, Result, refl, ap, subst, arith, lit<, lit≤}
+use Rattle.std.proofs.Common.{◌≡◌, ℕ, ◌+◌, ◌/◌, ◌%◌, ◌<◌, ◌≤◌, Bool, true, false, cond, not, ◌&&◌, ◌||◌, eqb, ltb, leb, List, [], ◌∷◌, length, get_or, drop, is_some, is_ok, Some, None, Ok, Err, Option, Result, refl, ap, subst, arith, lit<, lit≤}
 use Rattle.std.proofs.lemmas.Bool.{ltb-true, ltb-false, and_parts, both_ways}
 use Rattle.elements.specs.declared.types.ListFault.{ListFault}
 use Rattle.elements.specs.Elements.{checked}
@@ -84,7 +84,6 @@ setup_within b e =
       parts = fault_none b.parts (parts_bad_none (fault_of b.parts) b.user_at g.1);
       bare = λ z. absurd (grind arith);
       bearer = λ _. (bearer.0, bearer.1);
-      served = λ _. bearer.2;
       number = λ _. digits;
       noted = λ z. absurd (grind arith);
       cause = λ z. absurd (grind arith);
@@ -96,7 +95,6 @@ plain k c p bare s g t = record {
   parts = p;
   bare = bare;
   bearer = λ e. absurd (s e);
-  served = λ e. absurd (s e);
   number = λ e. absurd (s e);
   noted = λ e. absurd (g e);
   cause = λ e. absurd (t e);
@@ -116,7 +114,6 @@ progress_within p = record {
   parts = no_parts;
   bare = λ _. refl;
   bearer = λ e. absurd (grind arith);
-  served = λ e. absurd (grind arith);
   number = λ e. absurd (grind arith);
   noted = λ _. (p.0, (p.1, refl));
   cause = λ e. absurd (grind arith);
@@ -127,7 +124,6 @@ clear_within b e = record {
   parts = fault_none b.parts e;
   bare = λ z. absurd (grind arith);
   bearer = λ z. absurd (grind arith);
-  served = λ z. absurd (grind arith);
   number = λ z. absurd (grind arith);
   noted = λ z. absurd (grind arith);
   cause = λ _. cause_within b.cause;

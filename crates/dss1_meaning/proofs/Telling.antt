@@ -1,5 +1,5 @@
 -- What the user's end reads of a told message: its kind and the parts told. Assumes nothing.
-use Rattle.std.proofs.Common.{◌≡◌, ℕ, ◌+◌, ◌*◌, ◌/◌, ◌%◌, ◌<◌, ◌≤◌, Bool, true, false, cond, ◌&&◌, ◌||◌, eqb, leb, ◌↔◌, List, [], ◌++◌, length, get_or, drop, is_some, is_ok, Some, None, Ok, Err, Option, Result, sym, refl, ap, ◌∙◌, subst, arith, lit<, lit≤}
+use Rattle.std.proofs.Common.{◌≡◌, ℕ, ◌+◌, ◌*◌, ◌/◌, ◌%◌, ◌≤◌, Bool, true, false, cond, ◌&&◌, ◌||◌, eqb, leb, ◌↔◌, List, [], ◌++◌, length, get_or, drop, is_some, is_ok, Some, None, Ok, Err, Option, Result, sym, refl, ap, ◌∙◌, subst, arith, lit<, lit≤}
 use Rattle.std.proofs.lemmas.Bool.{and_from, and_parts, le-leb, lt-ltb, cond-true}
 use Rattle.elements.specs.Elements.{checked}
 use Rattle.entries.specs.Codings.{dss1}
@@ -11,6 +11,7 @@ use Rattle.values.specs.declared.types.Capability.{Capability}
 use Rattle.values.specs.Bearers.{bearer_in}
 use Rattle.values.specs.Numbers.{code_of, type_of}
 use Rattle.digits.specs.Dialling.{dialled, Number}
+use Rattle.carried.proofs.Served.{told_bearer_served}
 use Rattle.side.specs.declared.kinds.Kind.{Kind}
 use Rattle.side.specs.declared.kinds.Kind.TheVariants.{Setup, Complete, Progress, Alerting, Answer, Quiet, Clear, Down}
 use Rattle.side.specs.declared.kinds.Phase.{Phase}
@@ -20,7 +21,7 @@ use Rattle.side.specs.Table.{told_in, between}
 use Rattle.side.specs.Contents.{Part}
 use Rattle.side.specs.Signals.{Contents, empty, noted, described}
 use Rattle.side.specs.Meaning.{Within, PartsWithin, Far}
-use Rattle.carried.specs.Carried.{Five, five_at, parts_of, fault_of, part_at, progress_octets, cause_octets, bad_at, parts_bad_at, sooner}
+use Rattle.carried.specs.Carried.{Five, five_at, parts_of, fault_of, part_at, progress_octets, cause_octets, bad_at, parts_bad_at, sooner, told_bearer}
 use Rattle.carried.proofs.Numbers.{number_of_text}
 use Rattle.carried.proofs.PartLaws.{within_parts, within_weights, within_fault, part_short}
 use Rattle.dss1_meaning.specs.declared.types.MessageType.{MessageType}
@@ -120,7 +121,7 @@ pub told_fits : (k : Kind) (c : Contents) → Within k c → Fits (told_elements
 told_fits Setup c w =
     let n = w.number refl in
     let pr : List ℕ = progress_octets (or_noted c.progress c.isdn (0x82, 0x83)) in
-    table_fits c.bearer [] pr (number_octets c.number) c.parts w.parts (w.bearer refl).1 (lit≤ tt) (progress_short (or_noted c.progress c.isdn (0x82, 0x83)))
+    table_fits (told_bearer c.bearer) [] pr (number_octets c.number) c.parts w.parts (told_bearer_served c.bearer).1 (lit≤ tt) (progress_short (or_noted c.progress c.isdn (0x82, 0x83)))
     (number_short c.number n.0 n.1.0 n.1.1 n.1.2)
 told_fits Complete c w = table_fits [] [] (progress_octets c.progress) [] [] no_parts (lit≤ tt) (lit≤ tt) (progress_short c.progress) (lit≤ tt)
 told_fits Progress c w = table_fits [] [] (progress_octets c.progress) [] [] no_parts (lit≤ tt) (lit≤ tt) (progress_short c.progress) (lit≤ tt)
@@ -276,13 +277,14 @@ told_far l p Setup c w h =
     let es : List Entry = told_elements Setup c in
     let f = told_fits Setup c w in
     let n = w.number refl in
-    let s = w.served refl in
+    let tb : List ℕ = told_bearer c.bearer in
+    let s = told_bearer_served c.bearer in
     let pr : List ℕ = progress_octets (or_noted c.progress c.isdn (0x82, 0x83)) in
     let nm : List ℕ = number_octets c.number in
     same Setup c (far_of (reads_at user 64 (head l type.Setup ++ listed es)))
     (far_reads l type.Setup es f (named_to_begin l (and_parts (callable l) (between 0 0 p) h).0)
-    ∙ setup_far (body_in (listed es)) c.parts c.bearer s.0 n.0 n.1.0 (bearer_back c.bearer [] pr nm c.parts f) s.1 (w.bearer refl).0
-    (number_back c.bearer [] pr nm c.parts f ∙ ap number_octets n.1.1) n.1.2 (parts_back c.bearer [] pr nm c.parts f) w.parts)
+    ∙ setup_far (body_in (listed es)) c.parts tb s.2.0 n.0 n.1.0 (bearer_back tb [] pr nm c.parts f) s.2.1 s.0
+    (number_back tb [] pr nm c.parts f ∙ ap number_octets n.1.1) n.1.2 (parts_back tb [] pr nm c.parts f) w.parts)
 told_far l p Complete c w h =
     let es : List Entry = told_elements Complete c in
     plain_far Complete c (far_of (reads_at user 64 (head l type.CallProceeding ++ listed es))) (said_far (proceeding_read (noted (body_in (listed es)).progress)))

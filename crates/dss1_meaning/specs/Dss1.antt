@@ -19,7 +19,6 @@ use Rattle.side.specs.declared.kinds.Phase.TheVariants.{Idle, Clearing}
 use Rattle.side.specs.declared.kinds.System.TheVariants.{Dss1}
 use Rattle.side.specs.declared.kinds.Reason.{Reason}
 use Rattle.side.specs.declared.kinds.Reason.TheVariants.{Malformed, UnknownType, NoSuchLeg, Missing, BadValue}
-use Rattle.side.specs.declared.kinds.Layer.{Layer}
 use Rattle.side.specs.declared.kinds.Layer.TheVariants.{Message, List as InList}
 use Rattle.side.specs.declared.kinds.Refusal.{Refusal}
 use Rattle.side.specs.Table.{heard_to, told_to}
@@ -27,7 +26,7 @@ use Rattle.side.specs.Contents.{Part}
 use Rattle.side.specs.Signals.{Contents, Heard, empty, noted, described}
 use Rattle.side.specs.Meaning.{Turn, Far}
 use Rattle.side.specs.declared.records.Dss1Record.{Dss1Record}
-use Rattle.carried.specs.Carried.{Five, five_in, parts_of, fault_of, part_at, progress_octets, cause_octets, tag_place, bad_at, parts_bad_at, sooner}
+use Rattle.carried.specs.Carried.{Five, five_in, parts_of, fault_of, part_at, progress_octets, cause_octets, tag_place, bad_at, parts_bad_at, sooner, told_bearer}
 use Rattle.dss1_meaning.specs.declared.types.MessageType.{MessageType}
 use Rattle.dss1_meaning.specs.declared.types.MessageType.TheVariants as type
 
@@ -297,7 +296,7 @@ or_noted None true other = None
 or_noted None false other = Some other
 
 abbrev pub told_elements : Kind → Contents → List Entry
-told_elements Setup c = table c.bearer [] (progress_octets (or_noted c.progress c.isdn (0x82, 0x83))) (number_octets c.number) c.parts
+told_elements Setup c = table (told_bearer c.bearer) [] (progress_octets (or_noted c.progress c.isdn (0x82, 0x83))) (number_octets c.number) c.parts
 told_elements Complete c = table [] [] (progress_octets c.progress) [] []
 told_elements Progress c = table [] [] (progress_octets c.progress) [] []
 told_elements Alerting c = table [] [] (progress_octets (or_noted c.progress c.isdn (0x82, 0x82))) [] c.parts

@@ -5,7 +5,6 @@ use Rattle.elements.specs.Elements.{checked}
 use Rattle.entries.specs.Codings.{dss1, isup}
 use Rattle.entries.specs.Entries.{listed, under, found}
 use Rattle.entries.proofs.Tables.{reads_found_bare, whole_bare}
-use Rattle.side.specs.declared.kinds.Kind.TheVariants.{Answer}
 use Rattle.side.specs.Contents.{Part}
 use Rattle.side.specs.Meaning.{PartsWithin}
 use Rattle.carried.specs.Carried.{Five, five_in, five_at, parts_of, fault_of, part_at, parts_bad_at}

@@ -10,6 +10,7 @@ use Rattle.values.specs.Numbers.{nature_of, type_of_nature}
 use Rattle.digits.specs.Dialling.{Number}
 use Rattle.digits.specs.Signals.{ended, packed, odd_count, unpacked}
 use Rattle.digits.proofs.Packs.{number_back}
+use Rattle.carried.proofs.Served.{told_bearer_served}
 use Rattle.side.specs.declared.kinds.Kind.{Kind}
 use Rattle.side.specs.declared.kinds.Kind.TheVariants.{Setup, Complete, Progress, Alerting, Answer, Quiet, Clear}
 use Rattle.side.specs.declared.kinds.Reason.TheVariants.{Missing}
@@ -17,7 +18,7 @@ use Rattle.side.specs.declared.kinds.Refusal.{Refusal}
 use Rattle.side.specs.Contents.{Part}
 use Rattle.side.specs.Signals.{Contents, Heard, described}
 use Rattle.side.specs.Meaning.{Within, PartsWithin}
-use Rattle.carried.specs.Carried.{parts_of, cause_octets, bad_at, sooner}
+use Rattle.carried.specs.Carried.{parts_of, cause_octets, bad_at, sooner, told_bearer}
 use Rattle.carried.proofs.PartLaws.{cause_back}
 use Rattle.isup_meaning.specs.declared.types.MessageType.TheVariants as type
 use Rattle.isup_meaning.specs.Reading.{Body, refusal, body_in, five_of, progress_of, numbered, number_in, medium_bearer, there, backward_isdn, setup_says, party_says, clear_says, judged, parts_bad, setup_bad, setup_read, event_read, release_read, heard_as, reads}
@@ -169,7 +170,7 @@ module _ (l : ℕ) (p : Option (ℕ × ℕ)) (k : Kind) (not-clear : k ≡ Clear
     where
       in_band : Option (ℕ × ℕ) → Bool
       in_band None = false
-      in_band (Some q) = eqb (description q) 8
+      in_band (Some q) = eqb (described q) 8
 
       is : (q : Option (ℕ × ℕ)) → progress_event q ≡ cond (in_band q) 0x03 0x02
       is None = refl
@@ -199,18 +200,19 @@ iam_setup l c w =
     let o : List ℕ = iam l c in
     let b : Body = body_in o type.InitialAddress in
     let n = w.number refl in
-    let s = w.served refl in
-    let few = (w.bearer refl).1 in
+    let tb : List ℕ = told_bearer c.bearer in
+    let s = told_bearer_served c.bearer in
+    let few = s.1 in
     let h = iam_short l c w in
     let field : List ℕ = number_field c.number in
-    let fixed : List ℕ = 0x00 ∷ 0x20 ∷ isdn_octet 0x01 0x00 c.isdn ∷ 0x0A ∷ medium_of c.bearer ∷ [] in
+    let fixed : List ℕ = 0x00 ∷ 0x20 ∷ isdn_octet 0x01 0x00 c.isdn ∷ 0x0A ∷ medium_of tb ∷ [] in
     let same : b.field ≡ number_field (Some (n.0, n.1.0)) =
-    long_field o l type.InitialAddress fixed field refl refl c.progress c.parts w.parts c.bearer few refl h ∙ ap number_field n.1.1 in
+    long_field o l type.InitialAddress fixed field refl refl c.progress c.parts w.parts tb few refl h ∙ ap number_field n.1.1 in
     let enough : 2 ≤ length (number_field (Some (n.0, n.1.0))) = omega arith in
-    subst (Reaches Setup c.parts) (sym (long_reads o l type.InitialAddress fixed field refl refl c.progress c.parts w.parts c.bearer few refl h))
+    subst (Reaches Setup c.parts) (sym (long_reads o l type.InitialAddress fixed field refl refl c.progress c.parts w.parts tb few refl h))
     (setup_reaches o b c.parts (subst (λ x. 2 ≤ length x) (sym same) enough)
-    (setup_fine b (medium_back c.bearer)
+    (setup_fine b (medium_back tb)
     (ap (λ x. is_some (number_in x)) same ∙ ap is_some (field_number n.0 n.1.0 n.1.2))
-    (ap (λ x. is_ok (bearer_in x)) (long_bearer o l type.InitialAddress fixed field refl refl c.progress c.parts w.parts c.bearer few refl h) ∙ ap is_ok s.1)
-    (long_fine o l type.InitialAddress fixed field refl refl c.progress c.parts w.parts c.bearer few refl h))
-    (long_parts o l type.InitialAddress fixed field refl refl c.progress c.parts w.parts c.bearer few refl h))
+    (ap (λ x. is_ok (bearer_in x)) (long_bearer o l type.InitialAddress fixed field refl refl c.progress c.parts w.parts tb few refl h) ∙ ap is_ok s.2.1)
+    (long_fine o l type.InitialAddress fixed field refl refl c.progress c.parts w.parts tb few refl h))
+    (long_parts o l type.InitialAddress fixed field refl refl c.progress c.parts w.parts tb few refl h))

@@ -2,11 +2,12 @@
 use Rattle.std.proofs.Common.{ℕ, ◌+◌, ◌≤◌, Bool, true, false, cond, eqb, List, [], ◌∷◌, ◌++◌, length, None, sym, refl, subst, arith, lit≤}
 use Rattle.entries.specs.Entries.{listed}
 use Rattle.entries.proofs.Tables.{light}
+use Rattle.carried.proofs.Served.{told_bearer_served}
 use Rattle.side.specs.declared.kinds.Kind.{Kind}
 use Rattle.side.specs.declared.kinds.Kind.TheVariants.{Setup, Complete, Progress, Alerting, Answer, Quiet, Clear, Down}
 use Rattle.side.specs.Signals.{Contents}
 use Rattle.side.specs.Meaning.{Within, PartsWithin}
-use Rattle.carried.specs.Carried.{cause_octets}
+use Rattle.carried.specs.Carried.{cause_octets, told_bearer}
 use Rattle.isup_meaning.specs.declared.types.MessageType.TheVariants as type
 use Rattle.isup_meaning.specs.Writing.{head, replied, optional_table, field_and_list, number_field, isdn_octet, medium_of, iam, acm, cpg, con, anm, rel, party_list, progress_list, progress_event, told_octets}
 use Rattle.isup_meaning.proofs.Lengths.{no_parts, optional_length, list_only_length, field_list_length, cause_short, number_short}
@@ -32,13 +33,13 @@ field_short c w =
 
 pub iam_short : (l : ℕ) (c : Contents) → Within Setup c → length (iam l c) ≤ 255
 iam_short l c w =
-    let b = (w.bearer refl).1 in
+    let b = (told_bearer_served c.bearer).1 in
     omega (
       arith,
-      iam_length l (isdn_octet 0x01 0x00 c.isdn) (medium_of c.bearer) (number_field c.number) (listed (optional_table c.progress c.parts c.bearer)),
+      iam_length l (isdn_octet 0x01 0x00 c.isdn) (medium_of (told_bearer c.bearer)) (number_field c.number) (listed (optional_table c.progress c.parts (told_bearer c.bearer))),
       field_short c w,
-      optional_length c.progress c.parts w.parts c.bearer,
-      light (length c.bearer),
+      optional_length c.progress c.parts w.parts (told_bearer c.bearer),
+      light (length (told_bearer c.bearer)),
     )
 
 pub rel_short : (l : ℕ) (c : Contents) → PartsWithin c.parts → length (rel l c) ≤ 255

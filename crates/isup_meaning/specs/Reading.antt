@@ -1,6 +1,6 @@
 -- The messages of ISUP as they are read: circuit, type, fixed octets, pointers, the fields they reach; refusals and their places.
 -- Rests on element lists, on the values inside parameters and on the kinds.
-use Rattle.std.specs.Prelude.{◌≡◌, ℕ, ◌+◌, ◌*◌, ◌/◌, ◌%◌, Bool, true, false, cond, not, ◌&&◌, ◌||◌, List, [], ◌∷◌, length, take, drop, is_some, is_ok, Some, None, Ok, Err, Option, Result, ◌==◌, nat_le, nat_lt, slice_index}
+use Rattle.std.specs.Prelude.{ℕ, ◌+◌, ◌*◌, ◌/◌, ◌%◌, Bool, true, false, cond, not, ◌&&◌, ◌||◌, List, [], ◌∷◌, length, take, drop, is_some, is_ok, Some, None, Ok, Err, Option, Result, ◌==◌, nat_le, nat_lt, slice_index}
 use Rattle.elements.specs.declared.types.ListFault.{ListFault}
 use Rattle.elements.specs.declared.types.ListFault.TheVariants.{BreaksOff, NoEnd}
 use Rattle.elements.specs.Elements.{checked}
@@ -17,7 +17,6 @@ use Rattle.side.specs.declared.kinds.Kind.TheVariants.{Setup, Complete, Progress
 use Rattle.side.specs.declared.kinds.System.TheVariants.{Isup}
 use Rattle.side.specs.declared.kinds.Reason.{Reason}
 use Rattle.side.specs.declared.kinds.Reason.TheVariants.{Malformed, UnknownType, NoSuchLeg, Missing, BadValue}
-use Rattle.side.specs.declared.kinds.Layer.{Layer}
 use Rattle.side.specs.declared.kinds.Layer.TheVariants.{NestedList, Message, List as InList}
 use Rattle.side.specs.declared.kinds.Refusal.{Refusal}
 use Rattle.side.specs.Signals.{Contents, Heard, empty}

@@ -1,6 +1,6 @@
 -- The messages of ISUP as they are written, the record of a circuit, and what the distant exchange reads.
 -- Rests on how messages are read, on tables of elements and on the table of phases.
-use Rattle.std.specs.Prelude.{ℕ, ◌+◌, ◌*◌, ◌%◌, Bool, true, false, cond, List, [], ◌∷◌, ◌++◌, length, Some, None, Ok, Err, Option, Result, ◌==◌, slice_index}
+use Rattle.std.specs.Prelude.{ℕ, ◌+◌, ◌%◌, Bool, true, false, cond, List, [], ◌∷◌, ◌++◌, length, Some, None, Ok, Err, Option, Result, ◌==◌, slice_index}
 use Rattle.entries.specs.Entries.{Entry, listed}
 use Rattle.values.specs.declared.types.NumberType.{NumberType}
 use Rattle.values.specs.Numbers.{nature_of}
@@ -17,7 +17,7 @@ use Rattle.side.specs.Table.{heard_to, told_to}
 use Rattle.side.specs.Contents.{Part}
 use Rattle.side.specs.Signals.{Contents, Heard, described}
 use Rattle.side.specs.Meaning.{Turn, Far}
-use Rattle.carried.specs.Carried.{part_at, progress_octets, cause_octets}
+use Rattle.carried.specs.Carried.{part_at, progress_octets, cause_octets, told_bearer}
 use Rattle.isup_meaning.specs.declared.types.MessageType.{MessageType}
 use Rattle.isup_meaning.specs.declared.types.MessageType.TheVariants as type
 use Rattle.isup_meaning.specs.Reading.{type_octet, reads}
@@ -113,8 +113,8 @@ number_field (Some n) = (nature_of n.0 + odd_bit (odd_count (length n.1 + 1))) �
 abbrev pub iam : ℕ → Contents → List ℕ
 iam l c =
     head l type.InitialAddress
-    ++ (0x00 ∷ 0x20 ∷ isdn_octet 0x01 0x00 c.isdn ∷ 0x0A ∷ medium_of c.bearer
-    ∷ field_and_list (number_field c.number) (listed (optional_table c.progress c.parts c.bearer)))
+    ++ (0x00 ∷ 0x20 ∷ isdn_octet 0x01 0x00 c.isdn ∷ 0x0A ∷ medium_of (told_bearer c.bearer)
+    ∷ field_and_list (number_field c.number) (listed (optional_table c.progress c.parts (told_bearer c.bearer))))
 
 -- the lists of messages with and without parts
 abbrev pub party_list : Contents → List ℕ

@@ -12,7 +12,7 @@ use Rattle.side.specs.declared.parts.Parts.{Parts}
 use Rattle.side.specs.Contents as side
 use Rattle.side.specs.Signals as signals
 use Rattle.carried.specs.Carried.{parts_of, bad_at, sooner}
-use Rattle.isup_meaning.specs.Reading.{Body, refusal, medium_bearer, number_in, or_bearer, there, bearer_of, forward_isdn, progress_of, five_of, parts_bad, setup_bad, setup_says, judged, setup_read}
+use Rattle.isup_meaning.specs.Reading.{Body, refusal, medium_bearer, number_in, or_bearer, there, forward_isdn, progress_of, five_of, parts_bad, setup_bad, setup_says, judged, setup_read}
 use Rattle.isup_reading.specs.Reads.{both, refused_at, number_of, chosen_of}
 
 both_bad : {A B : Type 0} (x : Result A ℕ) (y : Result B ℕ) → refused_at (both x y) ≡ sooner (refused_at x) (refused_at y)

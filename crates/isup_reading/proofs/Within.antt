@@ -1,10 +1,9 @@
 -- The places that are found in a list lie within it. Assumes nothing.
-use Rattle.std.proofs.Common.{◌≡◌, ℕ, zero, suc, ◌+◌, ◌<◌, Bool, true, false, cond, eqb, ltb, List, [], ◌∷◌, length, take, drop, Some, None, Err, Option, Result, refl, arith}
+use Rattle.std.proofs.Common.{◌≡◌, ℕ, zero, suc, ◌+◌, ◌<◌, Bool, true, false, cond, eqb, ltb, List, [], ◌∷◌, length, take, drop, Some, None, Err, Option, refl, arith}
 use Rattle.std.specs.Option.{option_map}
 use Rattle.elements.specs.declared.types.EndRule.{EndRule}
 use Rattle.elements.specs.declared.types.Seen.{Seen}
 use Rattle.elements.specs.declared.types.Seen.TheVariants.{Nothing, End, Single, Element, Broken}
-use Rattle.elements.specs.declared.types.ListFault.{ListFault}
 use Rattle.elements.specs.declared.types.ListFault.TheVariants.{BreaksOff}
 use Rattle.elements.specs.Elements.{Item, begun, walk, item_in, place_of, verdict, checked, ran_out_at}
 use Rattle.elements.proofs.Steps.{onward}

@@ -10,8 +10,8 @@ fn show_progress(rt: &HostRuntime, indent: &str, progress: Option<Progress>) -> 
     let Some(progress) = progress else {
         return Ok(());
     };
-    let octets = [progress.first, progress.second];
-    let description = progress.description();
+    let octets = [progress.location, progress.description];
+    let description = progress.described();
     let words = names::progress(description);
     println!(rt;
         "{indent}progress {}: {description}, {words}",

@@ -3,7 +3,7 @@
 use Rattle.std.specs.Prelude.{◌≡◌, ℕ, List, [], ◌∷◌, Ok, Err, Result}
 use Rattle.side.specs.declared.kinds.Kind.{Kind}
 use Rattle.side.specs.declared.kinds.Phase.{Phase}
-use Rattle.side.specs.declared.kinds.Phase.TheVariants.{Idle, Calling, CallingComplete, Called, Alerted, Answered}
+use Rattle.side.specs.declared.kinds.Phase.TheVariants.{Idle, Calling}
 use Rattle.side.specs.declared.kinds.Refusal.{Refusal}
 use Rattle.side.specs.Signals.{Contents, Heard}
 use Rattle.side.specs.Meaning.{Turn}

@@ -5,5 +5,5 @@ use Rattle.inspect_sides.proofs.shown.Goals as goal
 pub slice_bounds-result-end : goal.slice_bounds-result-end
 slice_bounds-result-end c = sym (length-take-le 32 c.args.word.now (omega arith))
 
-pub returns-else-word-gt-MOST-SHOWN : goal.returns-else-word-gt-MOST-SHOWN
-returns-else-word-gt-MOST-SHOWN c = sym (take_all 32 c.args.word.now (omega arith))
+pub returns-else-word-gt-MOST_SHOWN : goal.returns-else-word-gt-MOST_SHOWN
+returns-else-word-gt-MOST_SHOWN c = sym (take_all 32 c.args.word.now (omega arith))

@@ -1,4 +1,4 @@
-ghost use Rattle.std.specs.Prelude.{◌≡◌, ℕ, ◌<◌, ◌≤◌, ◌&&◌, ltb, [], ◌∷◌, length, if◌then◌else◌, Some, None, Ok, Err, MatchResult, nat_lt};
+ghost use Rattle.std.specs.Prelude.{◌≡◌, ℕ, ◌<◌, ◌≤◌, ◌&&◌, [], ◌∷◌, length, if◌then◌else◌, Some, None, Ok, Err, MatchResult, nat_lt};
 ghost use Rattle.std.specs.Option as Options;
 ghost use Rattle.values.specs.Bearers.{bearer_in};
 ghost use Rattle.values.specs.Causes.{cause_in};
@@ -55,7 +55,7 @@ impl Bearer {
 impl Cause {
     /// A cause, if both numbers are in their range.
     pub fn new(location: u8, value: u8) -> Option<Cause>
-        ensures { Options.option_map cause_of result ≡ (if ltb location 16 && nat_lt value 128 then Some (location, value) else None) }
+        ensures { Options.option_map cause_of result ≡ (if nat_lt location 16 && nat_lt value 128 then Some (location, value) else None) }
     {
         if location < 16 && value < 128 {
             Some(Cause { location, value })

@@ -1,4 +1,4 @@
-ghost use Rattle.std.specs.Prelude.{◌≡◌, ℕ, ◌<◌, ◌≤◌, ◌&&◌, ltb, if◌then◌else◌, Some, None, nat_lt};
+ghost use Rattle.std.specs.Prelude.{◌≡◌, ℕ, ◌<◌, ◌≤◌, ◌&&◌, if◌then◌else◌, Some, None, nat_lt};
 ghost use Rattle.std.specs.Option.{option_map};
 
 use super::Leg;
@@ -6,7 +6,7 @@ use super::Leg;
 impl Leg {
     /// The leg with a number, if there can be one.
     pub fn new(number: usize) -> Option<Leg>
-        ensures { option_map (λ l. l.number) result ≡ (if ltb number 64 then Some number else None) }
+        ensures { option_map (λ l. l.number) result ≡ (if nat_lt number 64 then Some number else None) }
     {
         if number < 64 {
             Some(Leg {
@@ -19,7 +19,7 @@ impl Leg {
 
     /// The leg with a number, if a side with so many legs has it.
     pub fn among(number: usize, legs: usize) -> Option<Leg>
-        ensures { option_map (λ l. l.number) result ≡ (if ltb number legs && nat_lt number 64 then Some number else None) }
+        ensures { option_map (λ l. l.number) result ≡ (if nat_lt number legs && nat_lt number 64 then Some number else None) }
     {
         if number < legs {
             Leg::new(number)

@@ -10,7 +10,7 @@ invariant_of-result c =
     let k = front_short b.count 11 c.as_octets-contents.result.now b.octets c.as_octets-contents.ensures b.most (omega arith) in
     let most : length c.as_octets-contents.result.now ≤ 21 = omega arith in
     let same : length c.as_octets-contents.result.now - 0 ≡ length c.as_octets-contents.result.now = omega arith in
-    (laid_room c.copy_from_slice.new.self (0 ∷ 0 ∷ 0 ∷ 0 ∷ 0 ∷ 0 ∷ 0 ∷ 0 ∷ 0 ∷ 0 ∷ 0 ∷ 0 ∷ 0 ∷ 0 ∷ 0 ∷ 0 ∷ 0 ∷ 0 ∷ 0 ∷ 0 ∷ 0 ∷ []) (length c.as_octets-contents.result.now) _ (ap length c.copy_from_slice.ensures.after) same most, (most, tt))
+    record { room = laid_room c.copy_from_slice.new.self (0 ∷ 0 ∷ 0 ∷ 0 ∷ 0 ∷ 0 ∷ 0 ∷ 0 ∷ 0 ∷ 0 ∷ 0 ∷ 0 ∷ 0 ∷ 0 ∷ 0 ∷ 0 ∷ 0 ∷ 0 ∷ 0 ∷ 0 ∷ 0 ∷ []) (length c.as_octets-contents.result.now) _ (ap length c.copy_from_slice.ensures.after) same most; most = most }
 
 pub returns : goal.returns
 returns c = record {

@@ -9,7 +9,7 @@ invariant_of-result c =
     let k = front_short d.count 20 c.as_octets-digits.result.now d.octets c.as_octets-digits.ensures d.most (omega arith) in
     let most : 1 + length c.as_octets-digits.result.now ≤ 21 = omega arith in
     let same : 1 + length c.as_octets-digits.result.now - 1 ≡ length c.as_octets-digits.result.now = omega arith in
-    (ap suc (laid_room c.copy_from_slice.new.self (0 ∷ 0 ∷ 0 ∷ 0 ∷ 0 ∷ 0 ∷ 0 ∷ 0 ∷ 0 ∷ 0 ∷ 0 ∷ 0 ∷ 0 ∷ 0 ∷ 0 ∷ 0 ∷ 0 ∷ 0 ∷ 0 ∷ 0 ∷ []) (length c.as_octets-digits.result.now) _ (ap length c.copy_from_slice.ensures.after) same k), (most, tt))
+    record { room = ap suc (laid_room c.copy_from_slice.new.self (0 ∷ 0 ∷ 0 ∷ 0 ∷ 0 ∷ 0 ∷ 0 ∷ 0 ∷ 0 ∷ 0 ∷ 0 ∷ 0 ∷ 0 ∷ 0 ∷ 0 ∷ 0 ∷ 0 ∷ 0 ∷ 0 ∷ 0 ∷ []) (length c.as_octets-digits.result.now) _ (ap length c.copy_from_slice.ensures.after) same k); most = most }
 
 pub returns : goal.returns
 returns c =

@@ -5,7 +5,7 @@ use Rattle.isup.proofs.fields.Piece.of.Goals as goal
 
 pub invariant_of-result : goal.invariant_of-result
 invariant_of-result c =
-    (same_room c.copy_from_slice.new.self _ (length c.args.contents.now) (ap length c.copy_from_slice.ensures.after) c.requires, (c.requires, tt))
+    record { room = same_room c.copy_from_slice.new.self _ (length c.args.contents.now) (ap length c.copy_from_slice.ensures.after) c.requires; most = c.requires }
 
 pub returns : goal.returns
 returns c =

@@ -1,0 +1,22 @@
+-- The bearer of a told setup is always one that is served, and the setup's own where that is served.
+use Rattle.std.proofs.Common.{◌≡◌, ℕ, ◌≤◌, List, length, Ok, Err, Result, refl, ap}
+use Rattle.std.proofs.Math.Dec.{lit≤}
+use Rattle.values.specs.declared.types.Capability.{Capability}
+use Rattle.values.specs.declared.types.Capability.TheVariants.{Audio}
+use Rattle.values.specs.declared.types.BearerFault.{BearerFault}
+use Rattle.values.specs.Bearers.{bearer_in}
+use Rattle.side.proofs.Builds.{bearer_size}
+use Rattle.carried.specs.Carried.{served_or, told_bearer}
+
+abbrev pub Served : List ℕ → Type 0
+Served b = (2 ≤ length b) × (length b ≤ 11) × ((capability : Capability) × (bearer_in b ≡ Ok capability))
+
+pub told_bearer_served : (b : List ℕ) → Served (told_bearer b)
+told_bearer_served b = by (bearer_in b) refl
+  where
+    by : (r : Result Capability BearerFault) → bearer_in b ≡ r → Served (served_or r b)
+    by (Err f) e = (lit≤ tt, lit≤ tt, (Audio, refl))
+    by (Ok k) e = let size = bearer_size b k e in (size.0, size.1, (k, e))
+
+pub told_bearer_is : (b : List ℕ) (k : Capability) → bearer_in b ≡ Ok k → told_bearer b ≡ b
+told_bearer_is b k e = ap (λ r. served_or r b) e
