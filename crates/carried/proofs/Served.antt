@@ -1,4 +1,4 @@
--- The bearer of a told setup is always one that is served, and the setup's own where that is served.
+-- The bearer of a told setup is always one that is served, and the setup's own where that is served. Assumes nothing.
 use Rattle.std.proofs.Common.{◌≡◌, ℕ, ◌≤◌, List, length, Ok, Err, Result, refl, ap}
 use Rattle.std.proofs.Math.Dec.{lit≤}
 use Rattle.values.specs.declared.types.Capability.{Capability}

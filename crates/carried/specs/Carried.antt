@@ -1,5 +1,6 @@
--- Progress and the carried parts in a list of DSS 1 elements, and where values outside their rule are refused.
--- Rests on the reader's definitions, on the limits of parts and on contents seen from outside.
+-- Progress and the carried parts in a list of DSS 1 elements, where values outside their rule are refused, and the
+-- bearer of a told setup. Rests on the reader's definitions, on the limits of parts, on which bearers are served and on
+-- contents seen from outside.
 use Rattle.std.specs.Prelude.{ℕ, ◌+◌, Bool, cond, ◌||◌, List, [], ◌∷◌, length, Some, None, Ok, Err, Option, Result, ◌==◌, nat_le}
 use Rattle.values.specs.declared.types.Capability.{Capability}
 use Rattle.values.specs.declared.types.BearerFault.{BearerFault}
@@ -59,12 +60,13 @@ abbrev pub cause_octets : Option (ℕ × ℕ) → List ℕ
 cause_octets None = []
 cause_octets (Some c) = (0x80 + c.0) ∷ (0x80 + c.1) ∷ []
 
--- the bearer that a told setup asks for: its own; where that is none that is served, 3.1 kHz audio. No setup that the
--- code can hold has such a bearer, but the tables answer for all contents
+-- a bearer where it is served, else 3.1 kHz audio
 abbrev pub served_or : Result Capability BearerFault → List ℕ → List ℕ
 served_or (Ok capability) bearer = bearer
 served_or (Err fault) bearer = 0x90 ∷ 0x90 ∷ 0xA3 ∷ []
 
+-- the bearer that a told setup asks for: its own. The code can hold no setup whose bearer is not served, but the tables
+-- answer for all contents
 abbrev pub told_bearer : List ℕ → List ℕ
 told_bearer bearer = served_or (bearer_in bearer) bearer
 
