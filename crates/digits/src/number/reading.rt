@@ -1,4 +1,4 @@
-ghost use Rattle.std.specs.Prelude.{◌≡◌, ◌≤◌, ◌==◌, length, None};
+ghost use Rattle.std.specs.Prelude.{◌≡◌, ◌≤◌, ◌==◌, ◌↔◌, IsTrue, length, None};
 ghost use Rattle.digits.specs.Dialling.{digit_char, stray_from, dialled, characters, held_by};
 ghost use Rattle.std.specs.Cmp.Rules.{comparing};
 ghost use Rattle.std.proofs.Common.{rules};
@@ -84,7 +84,10 @@ impl PartialEq for Digits {
 
     ghost laws = { Prim.search (comparing, rules) };
 
-    fn eq(&self, other: &Digits) -> bool {
+    fn eq(&self, other: &Digits) -> bool
+        ensures value { result ≡ on characters (pointwise ◌==◌) self.now other.now }
+        ensures decides { IsTrue result ↔ (characters self.now ≡ characters other.now) }
+    {
         self.as_octets() == other.as_octets()
     }
 }
