@@ -1,3 +1,9 @@
+ghost use Rattle.std.specs.Prelude.{◌≡◌, Some};
+ghost use Rattle.elements.specs.Faults.{fault_place, fault_behind, fault_text};
+
+use std::error::Error;
+use std::fmt;
+
 /// How a list of elements ends, and which of its tags stand alone.
 #[derive(Clone, Copy, PartialEq, Eq, Debug)]
 pub struct EndRule {
@@ -30,3 +36,44 @@ pub enum ListFault {
     /// Every element is whole and the end tag is missing; the place is where it should stand.
     NoEnd(usize),
 }
+
+impl ListFault {
+    /// The place of the fault.
+    pub fn place(self) -> usize
+        ensures { result ≡ fault_place self }
+    {
+        match self {
+            ListFault::BreaksOff(place) | ListFault::NoEnd(place) => place,
+        }
+    }
+
+    /// The same fault where so many octets stand before the list: its place is counted from the first of them.
+    pub fn behind(self, start: usize) -> ListFault
+        ensures { result ≡ fault_behind start self }
+    {
+        match self {
+            ListFault::BreaksOff(place) => ListFault::BreaksOff(place.saturating_add(start)),
+            ListFault::NoEnd(place) => ListFault::NoEnd(place.saturating_add(start)),
+        }
+    }
+}
+
+impl fmt::Display for ListFault {
+    ghost output = { λ fault. Some (fault_text fault) };
+
+    fn fmt<W: fmt::Write>(&self, f: &mut fmt::Formatter<W>) -> fmt::Result {
+        match *self {
+            ListFault::BreaksOff(place) => {
+                write!(f, "an element breaks off; its tag stands at place {place}")
+            }
+            ListFault::NoEnd(place) => {
+                write!(
+                    f,
+                    "the end tag is missing; it should stand at place {place}"
+                )
+            }
+        }
+    }
+}
+
+impl Error for ListFault {}

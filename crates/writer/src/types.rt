@@ -1,3 +1,9 @@
+ghost use Rattle.std.specs.Prelude.{Some};
+ghost use Rattle.writer.specs.Texts.{write_fault_text};
+
+use std::error::Error;
+use std::fmt;
+
 /// Why a step of writing is refused; nothing is written then.
 #[derive(Clone, Copy, PartialEq, Eq, Debug)]
 pub enum WriteFault {
@@ -18,6 +24,22 @@ pub enum Item<'a> {
     Element(u8, &'a [u8]),
     /// An element of one octet.
     Single(u8),
+    // Not Option around the entry: a table lists it beside elements, and Some would stand before each of those.
     /// Nothing: an optional element that did not come.
     Absent,
 }
+
+impl fmt::Display for WriteFault {
+    ghost output = { λ fault. Some (write_fault_text fault) };
+
+    fn fmt<W: fmt::Write>(&self, f: &mut fmt::Formatter<W>) -> fmt::Result {
+        f.write_str(match *self {
+            WriteFault::NotATag => "a tag that no element of this coding may have",
+            WriteFault::OutOfOrder => "the tags are not in ascending order",
+            WriteFault::TooLong => "more contents than a length octet can tell",
+            WriteFault::NoRoom => "no room in the buffer",
+        })
+    }
+}
+
+impl Error for WriteFault {}
