@@ -3,7 +3,7 @@
 //! One text serves every coding; a coding fixes how its lists end.
 #![tactic(auto)]
 
-ghost use Rattle.std.specs.Prelude.{◌≡◌, ℕ, ◌+◌, ◌-◌, ◌<◌, ◌≤◌, true, false, length, take, drop, Some, None, MatchOption};
+ghost use Rattle.std.specs.Prelude.{◌≡◌, ℕ, ◌+◌, ◌-◌, ◌<◌, ◌≤◌, Bool, true, false, Option, length, take, drop, refl, Some, None, MatchOption};
 ghost use Rattle.std.specs.Option.{option_map};
 ghost use Rattle.elements.specs.declared.types.EndRule.{EndRule};
 ghost use Rattle.elements.specs.declared.types.Seen.TheVariants.{Nothing, End, Single, Element, Broken};
@@ -20,11 +20,23 @@ pub trait Coding: Copy {
     /// Whether a tag of 80 hex or more is a whole element of one octet.
     const SINGLES: bool;
 
+    ghost END: { Option ℕ };
+
+    ghost SINGLES: { Bool };
+
     ghost rule: { EndRule };
 
     /// The two constants together, as code that is generic over the coding knows them.
     fn end_rule() -> EndRule
-        ensures { result ≡ rule };
+        ensures { result ≡ rule }
+    {
+        EndRule {
+            end: Self::END,
+            singles: Self::SINGLES,
+        }
+    }
+
+    ghost of_constants: { rule ≡ record { end = END; singles = SINGLES } };
 }
 
 /// The information elements of DSS 1: no end tag, and one-octet elements from tag 80 hex.
@@ -36,14 +48,13 @@ impl Coding for Dss1 {
 
     const SINGLES: bool = true;
 
+    ghost END = { None };
+
+    ghost SINGLES = { true };
+
     ghost rule = { record { end = None; singles = true } };
 
-    fn end_rule() -> EndRule {
-        EndRule {
-            end: Self::END,
-            singles: Self::SINGLES,
-        }
-    }
+    ghost of_constants = { refl };
 }
 
 /// The optional parameters of ISUP: tag 00 ends the list.
@@ -55,14 +66,13 @@ impl Coding for Isup {
 
     const SINGLES: bool = false;
 
+    ghost END = { Some 0 };
+
+    ghost SINGLES = { false };
+
     ghost rule = { record { end = Some 0; singles = false } };
 
-    fn end_rule() -> EndRule {
-        EndRule {
-            end: Self::END,
-            singles: Self::SINGLES,
-        }
-    }
+    ghost of_constants = { refl };
 }
 
 impl EndRule {
