@@ -1,4 +1,5 @@
-ghost use Rattle.std.specs.Prelude.{◌≡◌, Some};
+ghost use Rattle.std.specs.Prelude.{◌≡◌, ◌<◌, ◌^◌, Some};
+ghost use Rattle.elements.specs.Places.{size_of};
 ghost use Rattle.elements.specs.Faults.{fault_place, fault_behind, fault_text};
 
 use std::error::Error;
@@ -28,6 +29,17 @@ pub enum Seen {
     Broken,
 }
 
+/// A whole element of a list.
+#[derive(Clone, Copy)]
+pub struct ListElement<'a> {
+    /// The place of its tag.
+    pub place: usize,
+    /// Its tag.
+    pub tag: u8,
+    /// Its contents; none, where the tag is the whole element.
+    pub contents: Option<&'a [u8]>,
+}
+
 /// Why a list is not whole, with the place.
 #[derive(Clone, Copy, PartialEq, Eq, Debug)]
 pub enum ListFault {
@@ -35,6 +47,16 @@ pub enum ListFault {
     BreaksOff(usize),
     /// Every element is whole and the end tag is missing; the place is where it should stand.
     NoEnd(usize),
+}
+
+impl ListElement<'_> {
+    /// How many octets it takes.
+    pub(crate) fn size(self) -> usize
+        requires { size_of self < 2 ^ 64 }
+        ensures { result ≡ size_of self.entry }
+    {
+        self.contents.map_or(1, |contents| 2 + contents.len())
+    }
 }
 
 impl ListFault {
