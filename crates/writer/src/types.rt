@@ -1,6 +1,8 @@
-ghost use Rattle.std.specs.Prelude.{Some};
+ghost use Rattle.std.specs.Prelude.{◌≡◌, Some};
+ghost use Rattle.writer.specs.Entries.{entry_of};
 ghost use Rattle.writer.specs.Texts.{write_fault_text};
 
+use elements::types::ListElement;
 use std::error::Error;
 use std::fmt;
 
@@ -43,3 +45,15 @@ impl fmt::Display for WriteFault {
 }
 
 impl Error for WriteFault {}
+
+/// An element that was read, as an entry to be written.
+impl<'a> From<ListElement<'a>> for Item<'a> {
+    ghost from_gives = { λ element item. item ≡ entry_of element };
+
+    fn from(element: ListElement<'a>) -> Item<'a> {
+        match element.contents {
+            Some(contents) => Item::Element(element.tag, contents),
+            None => Item::Single(element.tag),
+        }
+    }
+}
