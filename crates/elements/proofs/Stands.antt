@@ -1,19 +1,13 @@
 -- A whole element that is seen at a place stands there, and the walk goes on after it. Assumes nothing.
 use Rattle.std.proofs.Common.{◌≡◌, ℕ, suc, ◌+◌, ◌-◌, ◌<◌, ◌≤◌, Bool, cond, ltb, List, ◌∷◌, ◌++◌, length, get_or, take, drop, Some, None, refl, sym, ap, ◌∙◌, arith, length-drop, Bor}
-use Rattle.std.proofs.lemmas.List.{take_more, drop_more, drop-take, drop-drop, take-take, take-append-drop, get_or-drop, length-take-le}
+use Rattle.std.proofs.Math.Seq.{take-add}
+use Rattle.std.proofs.lemmas.List.{take_more, drop_more, drop-drop, get_or-drop, length-take-le}
 use Rattle.std.proofs.lemmas.Bool.Decides.{nat_tests}
 use Rattle.elements.specs.declared.types.EndRule.{EndRule}
 use Rattle.elements.specs.declared.types.Seen.TheVariants.{End, Single, Element, Broken}
 use Rattle.elements.specs.Elements.{ends_list, stands_alone, seen, more}
 use Rattle.elements.specs.Places.{StandsAt, walk_from}
-use Rattle.elements.proofs.Looks.{here}
-use Rattle.elements.proofs.Steps.{goes, beyond}
-
-joins : (xs : List ℕ) (a m : ℕ) → take a xs ++ take m (drop a xs) ≡ take (a + m) xs
-joins xs a m =
-    ap (λ l. take a xs ++ l) (sym (drop-take a m xs))
-    ∙ ap (λ l. l ++ drop a (take (a + m) xs)) (sym (take-take a (a + m) xs (omega arith)))
-    ∙ take-append-drop a (take (a + m) xs)
+use Rattle.elements.proofs.Steps.{here, goes, beyond}
 
 -- the length that is seen is the octet after the tag
 length_seen : (a b : Bool) (m n k : ℕ) → Element n ≡ cond a End (cond b Single (cond (ltb m k) (Element m) Broken)) → n ≡ m
@@ -53,7 +47,7 @@ module _ (rule : EndRule) (list : List ℕ) (p : ℕ) (h : p < length list) wher
         record {
           place = refl;
           within = omega (arith, size);
-          octets = ap (λ q. take q list) same ∙ sym (joins list p (2 + n)) ∙ ap (λ l. take p list ++ l) three;
+          octets = ap (λ q. take q list) same ∙ take-add p (2 + n) list ∙ ap (λ l. take p list ++ l) three;
           walks =
               goes rule list p h (Element n) s
               ∙ ap (λ w. more (record { place = p; tag = get_or list p 0; contents = take n (drop 1 (drop (p + 1) list)) }) w) (beyond rule list p h n fits)

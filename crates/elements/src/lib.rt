@@ -110,25 +110,14 @@ impl EndRule {
         ensures seen { result ≡ seen self (drop place list.now) }
         ensures within { elim result [ Nothing ↦ length list.now ≤ place | End ↦ place < length list.now | Single ↦ place < length list.now | Element n ↦ place + 2 + n ≤ length list.now | Broken ↦ place < length list.now ] }
     {
-        if place >= list.len() {
-            return Seen::Nothing;
-        }
-        let tag = list[place];
-        if self.ends_list(tag) {
-            return Seen::End;
-        }
-        if self.stands_alone(tag) {
-            return Seen::Single;
-        }
-        let after = list.len() - place - 1;
-        if after == 0 {
-            return Seen::Broken;
-        }
-        let n = list[place + 1] as usize;
-        if n < after {
-            Seen::Element(n)
-        } else {
-            Seen::Broken
+        match list.get(place..).unwrap_or(&[]) {
+            [] => Seen::Nothing,
+            [tag, ..] if self.ends_list(*tag) => Seen::End,
+            [tag, ..] if self.stands_alone(*tag) => Seen::Single,
+            [_, n, contents @ ..] if usize::from(*n) <= contents.len() => {
+                Seen::Element(usize::from(*n))
+            }
+            _ => Seen::Broken,
         }
     }
 
