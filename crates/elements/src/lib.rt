@@ -82,10 +82,7 @@ impl EndRule {
     pub fn ends_list(self, tag: u8) -> bool
         ensures { result ≡ ends_list self tag }
     {
-        match self.end {
-            Some(end) => tag == end,
-            None => false,
-        }
+        self.end == Some(tag)
     }
 
     /// Whether a tag is a whole element of one octet.
