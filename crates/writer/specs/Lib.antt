@@ -2,3 +2,4 @@ pub mod Written
 pub mod Items
 pub mod Texts
 pub mod Entries
+pub mod Standings
