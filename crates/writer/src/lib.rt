@@ -83,7 +83,7 @@ impl Open {
 
 impl<C: Coding> Listing<C> {
     /// Where the list stands in a buffer, and its coding.
-    fn apart(self, buf: &[u8]) -> (Standing, C)
+    fn into_parts(self, buf: &[u8]) -> (Standing, C)
         ensures { result.0 ≡ record { rule = C.rule; last = self.last; at = self.at; size = length buf.now } }
     {
         let Listing { at, last, coding } = self;
@@ -96,8 +96,8 @@ impl<C: Coding> Listing<C> {
         (standing, coding)
     }
 
-    /// The list that stands so.
-    fn standing_so(standing: Standing, coding: C) -> Listing<C>
+    /// A list of the coding that stands there.
+    fn from_parts(standing: Standing, coding: C) -> Listing<C>
         ensures { (result.at ≡ standing.at) × (result.last ≡ standing.last) }
     {
         Listing {
@@ -112,13 +112,13 @@ impl<C: Coding> Listing<C> {
         ensures { ListStep (element_fault C.rule self.last self.at tag (length contents.now) (length buf.old)) (element tag contents.now) self.at buf.old buf.new (λ next. next.at) (λ next. next.last) tag result }
     {
         let at = self.at;
-        let (standing, coding) = self.apart(buf);
+        let (standing, coding) = self.into_parts(buf);
         let n = contents.len();
         let next = standing.element(tag, n)?;
         buf[at] = tag;
         buf[at + 1] = n as u8;
         buf[at + 2..at + 2 + n].copy_from_slice(contents);
-        Ok(Listing::standing_so(next, coding))
+        Ok(Listing::from_parts(next, coding))
     }
 
     /// An element of one octet, which may stand anywhere.
@@ -126,10 +126,10 @@ impl<C: Coding> Listing<C> {
         ensures { ListStep (single_fault C.rule self.at tag (length buf.old)) (tag ∷ []) self.at buf.old buf.new (λ next. next.at) (λ next. next.last) self.last result }
     {
         let at = self.at;
-        let (standing, coding) = self.apart(buf);
+        let (standing, coding) = self.into_parts(buf);
         let next = standing.single(tag)?;
         put(buf, at, &[tag])?;
-        Ok(Listing::standing_so(next, coding))
+        Ok(Listing::from_parts(next, coding))
     }
 
     /// The place at which the contents of the next element begin, if the buffer reaches so far: a nested
@@ -145,19 +145,19 @@ impl<C: Coding> Listing<C> {
         ensures { ListStep (element_fault C.rule self.last self.at tag nested.length (length buf.old)) (element tag (take nested.length (drop (self.at + 2) buf.old))) self.at buf.old buf.new (λ next. next.at) (λ next. next.last) tag result }
     {
         let at = self.at;
-        let (standing, coding) = self.apart(buf);
+        let (standing, coding) = self.into_parts(buf);
         let n = nested.length;
         let next = standing.element(tag, n)?;
         buf[at] = tag;
         buf[at + 1] = n as u8;
-        Ok(Listing::standing_so(next, coding))
+        Ok(Listing::from_parts(next, coding))
     }
 
     /// Ends the list with the end tag of its coding, if it has one.
     pub fn close(self, buf: &mut [u8]) -> Result<Closed, WriteFault>
         ensures { Step (room_fault self.at (length (ending C.rule.end)) (length buf.old)) (ending C.rule.end) self.at buf.old buf.new (λ closed. closed.length) result }
     {
-        let (standing, _) = self.apart(buf);
+        let (standing, _) = self.into_parts(buf);
         let length = put(buf, standing.at, standing.rule.end.as_slice())?;
         Ok(Closed { length })
     }
@@ -177,9 +177,9 @@ impl<C: Coding> Listing<C> {
     pub fn close_with(self, buf: &mut [u8], items: &[Item<'_>]) -> Result<Closed, WriteFault>
         ensures { Step (table_fault C.rule self.last self.at items.now (length buf.old)) (written items.now ++ ending C.rule.end) self.at buf.old buf.new (λ closed. closed.length) result }
     {
-        let (standing, coding) = self.apart(buf);
+        let (standing, coding) = self.into_parts(buf);
         standing.table(items)?;
-        let mut listing = Listing::standing_so(standing, coding);
+        let mut listing = Listing::from_parts(standing, coding);
         for item in items {
             listing = listing.item(buf, *item)?;
         }
@@ -197,12 +197,12 @@ impl<C: Coding> Listing<C> {
     ) -> Result<Listing<C>, WriteFault>
         ensures { ListStep (nest_fault C.rule I.rule self.last self.at tag items.now (length buf.old)) (element tag (written items.now ++ ending I.rule.end)) self.at buf.old buf.new (λ next. next.at) (λ next. next.last) tag result }
     {
-        let (standing, outer) = self.apart(buf);
+        let (standing, outer) = self.into_parts(buf);
         let start = standing.nest(tag, I::end_rule(), items)?;
         let nested = Open::begin()
             .list(coding)
             .close_with(&mut buf[start..], items)?;
-        Listing::standing_so(standing, outer).enclose(buf, tag, nested)
+        Listing::from_parts(standing, outer).enclose(buf, tag, nested)
     }
 
     /// Gives the message up.

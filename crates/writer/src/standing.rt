@@ -12,10 +12,9 @@ use elements::types::EndRule;
 pub(crate) fn reach(at: usize, more: usize, size: usize) -> Result<usize, WriteFault>
     ensures { Unless (room_fault at more size) (λ end. (end ≡ at + more) × (end ≤ size)) result }
 {
-    match at.checked_add(more) {
-        Some(end) if end <= size => Ok(end),
-        _ => Err(WriteFault::NoRoom),
-    }
+    at.checked_add(more)
+        .filter(|end| *end <= size)
+        .ok_or(WriteFault::NoRoom)
 }
 
 /// Where a list stands in a buffer.
@@ -79,8 +78,7 @@ impl Standing {
     pub(crate) fn end(self) -> Result<usize, WriteFault>
         ensures { Unless (room_fault self.at (length (ending self.rule.end)) self.size) (λ end. end ≡ self.at + length (ending self.rule.end)) result }
     {
-        let more = if self.rule.end.is_some() { 1 } else { 0 };
-        reach(self.at, more, self.size)
+        reach(self.at, self.rule.end.as_slice().len(), self.size)
     }
 
     /// The place that a table of elements and the end of the list reach.
