@@ -1,6 +1,6 @@
 -- A list is taken apart element by element, as far as it stops. Assumes nothing.
 use Rattle.std.proofs.Common.{◌≡◌, ℕ, ◌+◌, Bool, true, cond, List, [], ◌∷◌, ◌++◌, take, drop, Some, None, Option, Result, sym, refl, ap, ◌∙◌, arith, Bor}
-use Rattle.std.proofs.lemmas.List.{drop-take, take-take, take-append-drop}
+use Rattle.std.proofs.Math.Seq.{take-add}
 use Rattle.std.proofs.lemmas.Bool.Decides.{nat_tests}
 use Rattle.elements.specs.declared.types.EndRule.{EndRule}
 use Rattle.elements.specs.declared.types.ListElement.{ListElement}
@@ -17,12 +17,6 @@ use Rattle.writer.specs.Items.{octets_of, written}
 use Rattle.writer.specs.Entries.{entry_of}
 use Rattle.writer.proofs.Tables.{written_push}
 use Rattle.lists.specs.Apart.{reach, closing, TakenApart}
-
-joins : (xs : List ℕ) (a m : ℕ) → take a xs ++ take m (drop a xs) ≡ take (a + m) xs
-joins xs a m =
-    ap (λ l. take a xs ++ l) (sym (drop-take a m xs))
-    ∙ ap (λ l. l ++ drop a (take (a + m) xs)) (sym (take-take a (a + m) xs (omega arith)))
-    ∙ take-append-drop a (take (a + m) xs)
 
 is_tag_some : (o : Option ℕ) (t : ℕ) → is_tag o t ≡ true → o ≡ Some t
 is_tag_some None t e = absurd (let z : ◌≡◌ {A = ℕ} 0 1 = cc in omega arith)
@@ -71,6 +65,6 @@ module _ (rule : EndRule) (list : List ℕ) (p : ℕ) (items : List Item) (e : w
         octets =
             ap (λ o. written items ++ closing rule o) f
             ∙ (λ i. e i ++ s.2 i)
-            ∙ joins list p s.0
+            ∙ sym (take-add p s.0 list)
             ∙ ap (λ k. take k list) (sym (ap reach f ∙ s.1));
       }
