@@ -1,8 +1,8 @@
 -- Steps of writing: one after another, into a part of the buffer, and a head put before what stands already. Assumes nothing.
 use Rattle.std.proofs.Common.{◌≡◌, ℕ, ◌+◌, ◌-◌, ◌<◌, ◌≤◌, List, [], ◌∷◌, ◌++◌, length, take, drop, set, sym, refl, ap, ◌∙◌, subst, append_assoc, append-nil, arith, length-append, length-drop, length-set}
-use lib.Seq.{take-append-add, drop-append-add}
+use Rattle.std.proofs.Math.Seq.{take-add, take-append-add, drop-append-add}
 use borrow.Rule.Slice.PartMut.{put_mid}
-use Rattle.std.proofs.lemmas.List.{take_more_set, drop-set-lt, drop-drop, drop-take, take-take, take-append-drop, drop_all, take_rest, length-take-le}
+use Rattle.std.proofs.lemmas.List.{take_more_set, drop-set-lt, drop-drop, drop_all, take_rest, length-take-le}
 use Rattle.std.proofs.lemmas.Slice.{take-put_mid, drop-put_mid}
 use Rattle.writer.specs.Written.{element, Adds}
 
@@ -18,10 +18,6 @@ then {ys} {zs} {at} {m} {m'} {end} {a} {b} {c} p e q = record {
 
 pub moved : {ys : List ℕ} {at at' end end' : ℕ} {a b : List ℕ} → at ≡ at' → end ≡ end' → Adds ys at a end b → Adds ys at' a end' b
 moved {ys} {at} {at'} {end} {end'} {a} {b} e f p = subst (λ k. Adds ys k a end' b) e (subst (λ k. Adds ys at a k b) f p)
-
--- nothing is added
-pub none : (at : ℕ) (buf : List ℕ) → Adds [] at buf at buf
-none at buf = record { count = omega arith; front = sym (append-nil (take at buf)); rest = refl }
 
 -- a part that is copied in
 pub copied : (buf xs ys : List ℕ) (at end : ℕ) → end ≡ at + length xs → end ≤ length buf → ys ≡ xs → Adds xs at buf end (put_mid at (end - at) buf ys)
@@ -61,14 +57,10 @@ headed buf at t n room =
     let p = two buf at t n (omega arith) in
     let stays : Adds (take n (drop (at + 2) buf)) (at + 2) b (at + 2 + n) b = record {
       count = omega arith;
-      front = sym (ap (λ l. take (at + 2) b ++ take n l) (sym p.rest) ∙ ap (λ l. take (at + 2) b ++ l) (sym (drop-take (at + 2) n b))
-          ∙ joins b (at + 2) n);
+      front = take-add (at + 2) n b ∙ ap (λ l. take (at + 2) b ++ take n l) p.rest;
       rest = refl;
     } in
     subst (λ m. Adds (t ∷ m ∷ take n (drop (at + 2) buf)) at buf (at + 2 + n) b) (sym k) (then p refl stays)
-  where
-    joins : (xs : List ℕ) (a m : ℕ) → take a xs ++ drop a (take (a + m) xs) ≡ take (a + m) xs
-    joins xs a m = ap (λ l. l ++ drop a (take (a + m) xs)) (sym (take-take a (a + m) xs (omega arith))) ∙ take-append-drop a (take (a + m) xs)
 
 -- what is written into the part of a buffer that starts at k, seen from the whole
 pub inside : (k : ℕ) (buf out ys : List ℕ) (r : ℕ) → k ≤ length buf → length out ≡ length buf - k → Adds ys 0 (take (length buf - k) (drop k buf)) r out → Adds ys k buf (k + r) (put_mid k (length buf - k) buf out)

@@ -1,2 +1,5 @@
 pub mod Written
 pub mod Items
+pub mod Texts
+pub mod Entries
+pub mod Standings
