@@ -1,16 +1,28 @@
 -- The steps of the loops that read lines and octets. Rests on the definitions of specs/.
-use Rattle.std.proofs.Common.{◌≡◌, ℕ, ◌+◌, ◌<◌, ◌≤◌, Bool, true, false, cond, List, [], ◌∷◌, ◌++◌, length, get_or, drop, Some, None, Ok, Err, Option, Result, sym, refl, ap, ◌∙◌, append_assoc, arith}
+use Rattle.std.proofs.Common.{◌≡◌, ℕ, ◌+◌, ◌<◌, ◌≤◌, Bool, true, false, cond, not, ltb, unwrap_or, position, List, [], ◌∷◌, ◌++◌, length, get_or, drop, Some, None, Ok, Err, Option, Result, sym, refl, ap, ◌∙◌, append_assoc, arith}
 use Rattle.std.proofs.lemmas.List.{at_drop_more}
+use Rattle.std.proofs.lemmas.List.Sums.{prefix_len-le-length}
+use Rattle.std.proofs.lemmas.Bool.Decides.{nat_tests}
+use Rattle.std.specs.List.{position_or_len}
 use Rattle.text.specs.declared.types.HexFault.{HexFault}
 use Rattle.text.specs.declared.types.HexFault.TheVariants.{NotHex, OddDigit, NoMemory}
-use Rattle.text.specs.declared.types.Stop.{Stop}
-use Rattle.text.specs.Parts.{blank, stops_at, reach}
+use Rattle.text.specs.Parts.{blank}
 use Rattle.text.specs.Hex.{hex_value, second, octet_at, octet_of, joined, octets_from, Reads}
 
--- one character of a run
-pub reach_at : (s : Stop) (text : List ℕ) (k : ℕ) → k < length text → (b : Bool) → b ≡ stops_at s (get_or text k 0)
-    → reach s k (drop k text) ≡ cond b k (reach s (k + 1) (drop (k + 1) text))
-reach_at s text k here b e = at_drop_more (reach s k) text k 0 here ∙ ap (λ v. cond v k (reach s (k + 1) (drop (k + 1) text))) (sym e)
+-- the place of the first character that passes a test, or the end of the text where none does
+pub found : (p : ℕ → Bool) (cs : List ℕ) (n : ℕ) → Some n ≡ position p cs → n ≡ position_or_len p cs
+found p cs n = elim (ltb (position_or_len p cs) (length cs)) as (λ b. Some n ≡ cond b (Some (position_or_len p cs)) None → n ≡ position_or_len p cs) [ true ↦ λ e. cc | false ↦ λ e. cc ]
+
+pub to_end : (p : ℕ → Bool) (cs : List ℕ) → None ≡ position p cs → length cs ≤ position_or_len p cs
+to_end p cs e =
+    by (ltb (position_or_len p cs) (length cs)) refl e where
+  by : (b : Bool) → b ≡ ltb (position_or_len p cs) (length cs) → None ≡ cond b (Some (position_or_len p cs)) None → length cs ≤ position_or_len p cs
+  by true t e = cc
+  by false t e = grind (arith, nat_tests)
+
+pub found_or_end : (p : ℕ → Bool) (cs : List ℕ) (r : Option ℕ) → r ≡ position p cs → unwrap_or r (length cs) ≡ position_or_len p cs
+found_or_end p cs (Some n) e = found p cs n e
+found_or_end p cs None e = omega (arith, to_end p cs e, prefix_len-le-length (λ c. not (p c)) cs)
 
 -- an octet by the value of its first digit
 abbrev by_first : ℕ → List ℕ → Option ℕ → Result ℕ HexFault
