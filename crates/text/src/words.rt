@@ -70,8 +70,14 @@ pub fn without_comment(line: &[u8]) -> &[u8]
 pub fn first_word(line: &[u8]) -> (&[u8], &[u8])
     ensures { (result.0.now ≡ word_in line.now) × (result.1.now ≡ after_word line.now) }
 {
-    let start = line.iter().position(|c| !is_blank(*c)).unwrap_or(line.len());
+    let start = line
+        .iter()
+        .position(|c| !is_blank(*c))
+        .unwrap_or(line.len());
     let from_word = &line[start..];
-    let n = from_word.iter().position(|c| is_blank(*c)).unwrap_or(from_word.len());
+    let n = from_word
+        .iter()
+        .position(|c| is_blank(*c))
+        .unwrap_or(from_word.len());
     from_word.split_at(n)
 }

@@ -1,4 +1,4 @@
-use Rattle.std.proofs.Common.{◌≡◌, ◌-◌, ap, ◌∙◌, not, length, take, drop, rules}
+use Rattle.std.proofs.Common.{◌-◌, ap, ◌∙◌, not, length, take, drop, rules}
 use Rattle.std.proofs.lemmas.List.{take_rest}
 use Rattle.std.specs.List.{position_or_len}
 use borrow.Author.Tests.{tests}

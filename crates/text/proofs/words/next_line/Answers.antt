@@ -1,4 +1,4 @@
-use Rattle.std.proofs.Common.{◌≡◌, [], ◌<◌, length, ap, sym, ◌∙◌, ◌==◌, ◌+◌, take, drop, rules, arith, length-drop}
+use Rattle.std.proofs.Common.{◌<◌, length, ap, sym, ◌∙◌, ◌==◌, ◌+◌, take, drop, rules, arith, length-drop}
 use Rattle.std.proofs.lemmas.List.{take_rest, take_all, drop_all}
 use Rattle.std.proofs.lemmas.Bool.Decides.{nat_tests}
 use Rattle.std.specs.List.{position_or_len}
