@@ -1,7 +1,8 @@
 -- The steps of reading a dialled number, and that a number reads as itself.
 -- Rests on specs/Dialling.
-use Rattle.std.proofs.Common.{◌≡◌, ℕ, zero, suc, ◌+◌, ◌<◌, ◌≤◌, Bool, true, false, cond, eqb, ltb, ◌≢◌, List, [], ◌∷◌, ◌++◌, length, get_or, take, drop, set, Some, None, Ok, Err, Option, Result, sym, refl, ap, ◌∙◌, arith, below_more}
-use Rattle.std.proofs.lemmas.List.{at_drop_more, take_more_set, take_more, get_or-set_same, get_or-set_other, length-take-le, get_or-take}
+use Rattle.std.proofs.Common.{◌≡◌, ℕ, zero, suc, ◌+◌, ◌-◌, ◌<◌, ◌≤◌, Bool, true, false, cond, not, eqb, ltb, ◌≢◌, List, [], ◌∷◌, ◌++◌, length, get_or, take, drop, replicate, Some, None, Ok, Err, Option, Result, sym, refl, ap, ◌∙◌, arith, below_more}
+use Rattle.std.proofs.lemmas.List.{get_or_append_left, get_or-append_right, get_or-drop, length-take-le, get_or-take}
+use Rattle.std.specs.List.{position_from}
 use Rattle.std.proofs.lemmas.Bool.Decides.{nat_tests}
 use Rattle.digits.specs.declared.types.DigitFault.{DigitFault}
 use Rattle.digits.specs.declared.types.DigitFault.TheVariants.{NoDigits, TooMany, NotADigit}
@@ -21,13 +22,11 @@ fit text low high o e =
     ∙ ap (λ v. cond v (Err TooMany) (verdict text (stray_from 0 text))) b
     ∙ ap (verdict text) e
 
-module _ (text : List ℕ) (k : ℕ) (here : k < length text) where
-  pub stray_at : (b : Bool) → b ≡ digit_char (get_or text k 0) → stray_from k (drop k text) ≡ cond b (stray_from (k + 1) (drop (k + 1) text)) (Some k)
-  stray_at b e = at_drop_more (stray_from k) text k 0 here ∙ ap (λ v. cond v (stray_from (k + 1) (drop (k + 1) text)) (Some k)) (sym e)
-
-  pub copied : (octets : List ℕ) → k < length octets → take k octets ≡ take k text → take (k + 1) (set octets k (get_or text k 0)) ≡ take (k + 1) text
-  copied octets room same =
-      take_more_set octets k (get_or text k 0) room ∙ ap (λ l. l ++ (get_or text k 0 ∷ [])) same ∙ sym (take_more text k 0 here)
+-- the first stray character is the first that fails the digit test
+pub stray_is : (p : ℕ) (cs : List ℕ) → position_from (λ c. not (digit_char c)) p cs ≡ stray_from p cs
+stray_is p [] = refl
+stray_is p (c ∷ cs) =
+    elim (digit_char c) as (λ b. cond (not b) (Some p) (position_from (λ c. not (digit_char c)) (p + 1) cs) ≡ cond b (stray_from (p + 1) cs) (Some p)) [ true ↦ stray_is (p + 1) cs | false ↦ refl ]
 
 -- what a digit test tells
 pub told : (c : ℕ) → digit_char c ≡ true → (48 ≤ c) × (c ≤ 57)
@@ -38,17 +37,6 @@ digit_from c h = grind (arith, nat_tests)
 
 abbrev Digit : ℕ → Type 0
 Digit c = (48 ≤ c) × (c ≤ 57)
-
-pub more_digits : (octets : List ℕ) (k v : ℕ) → k < length octets → Digit v → ((j : ℕ) → j < k → Digit (get_or octets j 0))
-    → (j : ℕ) → j < k + 1 → Digit (get_or (set octets k v) j 0)
-more_digits octets k v room d below =
-    below_more (λ j. Digit (get_or (set octets k v) j 0)) k
-    (λ j h. let ne : j ≢ k = omega arith in rw get_or-set_other (below j h))
-    (rw get_or-set_same d)
-
--- what stands past a place that is written is as it was
-pub still_padded : (octets : List ℕ) (k v : ℕ) → ((j : ℕ) → k ≤ j → get_or octets j 0 ≡ 0) → (j : ℕ) → k + 1 ≤ j → get_or (set octets k v) j 0 ≡ 0
-still_padded octets k v past j h = let ne : j ≢ k = omega arith in rw get_or-set_other (past j (omega arith))
 
 -- a text whose characters are all digits has no stray one
 pub none_stray : (p : ℕ) (d : List ℕ) → ((k : ℕ) → k < length d → Digit (get_or d k 0)) → stray_from p d ≡ None
@@ -83,3 +71,20 @@ number_of d =
 
 pub length_characters : (d : Digits) → length (characters d) ≡ d.count
 length_characters d = length-take-le d.count d.octets (omega (arith, d.room, d.most))
+
+-- a text in front, and zeros after it
+pub held_digits : (text front back : List ℕ) → front ≡ text → stray_from 0 text ≡ None → (k : ℕ) → k < length text → Digit (get_or (front ++ back) k 0)
+held_digits text front back e none k h =
+    let l : k < length front = omega (arith, ap length e) in
+    rw (get_or_append_left front back 0 k l, e) (all_digits 0 text none k h)
+
+zero_at : (m k : ℕ) → get_or {A = ℕ} (replicate m 0) k 0 ≡ 0
+zero_at zero k = refl
+zero_at (suc m) zero = refl
+zero_at (suc m) (suc k) = zero_at m k
+
+pub held_padding : (text front : List ℕ) (m : ℕ) → front ≡ text → (k : ℕ) → length text ≤ k → get_or (front ++ drop (length text) (replicate m 0)) k 0 ≡ 0
+held_padding text front m e k h =
+    get_or-append_right front (drop (length text) (replicate m 0)) (length text) k 0 (ap length e) h
+    ∙ get_or-drop (length text) (replicate m 0) (k - length text) 0
+    ∙ zero_at m (length text + (k - length text))

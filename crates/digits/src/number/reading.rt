@@ -22,12 +22,7 @@ pub fn is_digit(c: char) -> bool
 fn first_stray(text: &[u8]) -> Option<usize>
     ensures { result ≡ stray_from 0 text.now }
 {
-    for (k, b) in text.iter().enumerate() {
-        if !is_digit(char::from(*b)) {
-            return Some(k);
-        }
-    }
-    None
+    text.iter().position(|c| !is_digit(char::from(*c)))
 }
 
 impl Digits {
@@ -55,9 +50,7 @@ impl Digits {
         ensures { characters result ≡ text.now }
     {
         let mut octets = [0u8; MOST_DIGITS];
-        for (k, b) in text.iter().enumerate() {
-            octets[k] = *b;
-        }
+        octets[..text.len()].copy_from_slice(text);
         Digits {
             octets,
             count: text.len(),
