@@ -26,6 +26,8 @@ fn first_stray(text: &[u8]) -> Option<usize>
 }
 
 impl Digits {
+    // By name: a TryFrom<&[u8]> would not say whether octets are characters or packed signals.
+
     /// Reads the digits of an IA5 text: all of it, or the fault says why not.
     pub fn read(text: &[u8]) -> Result<Digits, DigitFault>
         ensures { held_by result ≡ dialled text.now }
@@ -61,7 +63,7 @@ impl Digits {
     pub fn as_octets(&self) -> &[u8]
         ensures { result.now ≡ characters self.now }
     {
-        &self.octets[0..self.count]
+        &self.octets[..self.count]
     }
 
     /// How many digits there are.
@@ -72,6 +74,7 @@ impl Digits {
     }
 }
 
+// By hand: a derived == would compare the padding, and the promise is about the characters.
 impl PartialEq for Digits {
     ghost eq = { on characters (pointwise ◌==◌) };
 
@@ -83,8 +86,4 @@ impl PartialEq for Digits {
     {
         self.as_octets() == other.as_octets()
     }
-}
-
-impl Eq for Digits {
-    ghost laws = { Prim.search (comparing, rules) };
 }
