@@ -71,9 +71,7 @@ pub fn read_octets(text: &[u8], heap: Global) -> Result<Vec<u8>, HexFault>
 impl From<AllocFailed<u8>> for HexFault {
     ghost from_gives = { λ _ fault. fault ≡ NoMemory };
 
-    fn from(_: AllocFailed<u8>) -> HexFault
-        ensures { result ≡ NoMemory }
-    {
+    fn from(_: AllocFailed<u8>) -> HexFault {
         Self::NoMemory
     }
 }

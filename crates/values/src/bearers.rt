@@ -9,9 +9,7 @@ impl TryFrom<u8> for Capability {
 
     ghost try_from_gives = { λ code result. result ≡ capability_of code };
 
-    fn try_from(code: u8) -> Result<Capability, BearerFault>
-        ensures { result ≡ capability_of code }
-    {
+    fn try_from(code: u8) -> Result<Capability, BearerFault> {
         match code {
             0 => Ok(Capability::Speech),
             8 => Ok(Capability::Unrestricted),

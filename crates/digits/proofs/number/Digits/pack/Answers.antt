@@ -10,7 +10,7 @@ loop-n-preserved c =
     let d = c.args.self.now in
     let ss = ended (characters c.args.self.now) in
     let n = c.loop-n.n in
-    let here : c.loop-n.n < length (packed (ended (characters c.args.self.now))) = omega (arith, c.packed_len-needed.ensures.whole, length-take-le c.packed_len-needed.result c.args.out.now c.if-out-needed.false) in
+    let here : c.loop-n.n < length (packed (ended (characters c.args.self.now))) = omega (arith, c.packed_len-needed.ensures.whole, length-take-le c.packed_len-needed.result c.args.out.now (omega arith)) in
     let room : c.loop-n.n < length c.loop-n.octet-items = search rules in
     let is =
     c.pair.ensures
@@ -29,7 +29,7 @@ returns c =
     let needed = c.packed_len-needed.result in
     let whole = c.packed_len-needed.ensures.whole in
     let behind = drop needed c.args.out.now in
-    let long : length c.loop-n.octet-items ≡ c.packed_len-needed.result = omega (arith, length-take-le needed c.args.out.now c.if-out-needed.false) in (
+    let long : length c.loop-n.octet-items ≡ c.packed_len-needed.result = omega (arith, length-take-le needed c.args.out.now (omega arith)) in (
       whole,
       take_at octets behind needed long
           ∙ sym (take_all c.loop-n.n octets (omega arith))
