@@ -1,7 +1,8 @@
 -- The steps of packing and unpacking, and that unpacking undoes packing.
 -- Rests on specs/Signals and on the steps of reading.
-use Rattle.std.proofs.Common.{◌≡◌, ℕ, zero, suc, ◌+◌, ◌-◌, ◌*◌, ◌/◌, ◌%◌, ◌<◌, ◌≤◌, Bool, true, false, cond, eqb, ltb, List, [], ◌∷◌, ◌++◌, map, length, get_or, take, Ok, Err, Result, sym, refl, ap, ◌∙◌, arith}
-use Rattle.std.proofs.lemmas.List.{take_at, length-take-le, length-map, take-map, ext_get_or, length_push, get_or-take, get_or_append_left, get_or_at, get_or_past, get_or-map, append-nil}
+use Rattle.std.proofs.Common.{◌≡◌, ℕ, zero, suc, ◌+◌, ◌-◌, ◌*◌, ◌/◌, ◌%◌, ◌<◌, Bool, true, false, cond, eqb, List, [], ◌∷◌, ◌++◌, map, length, get_or, take, Ok, Err, Result, sym, refl, ap, ◌∙◌, arith}
+use Rattle.std.proofs.lemmas.Grind.{common_steps}
+use Rattle.std.proofs.lemmas.List.{take_at, length-map, take-map, ext_get_or, get_or-map, append-nil}
 use Rattle.std.proofs.lemmas.List.Concat.{flat_map-append}
 use Rattle.std.proofs.lemmas.List.Folds.{flat_map-map}
 use Rattle.std.specs.List.{flat_map}
@@ -11,7 +12,7 @@ use Rattle.digits.specs.declared.types.DigitFault.TheVariants.{TooMany}
 use Rattle.digits.specs.declared.number.Digits.{Digits}
 use Rattle.digits.specs.Dialling.{dialled, Number, characters}
 use Rattle.digits.specs.Signals.{signals, digits_of, ended, packed, octets_for, odd_count, halves, signal_at, but_last, signals_in, without_end, unpacked, Halves, PackingIsUndone}
-use Rattle.digits.proofs.Steps.{reads_itself, length_characters}
+use Rattle.digits.proofs.Steps.{Digit, reads_itself, length_characters}
 
 -- the halves of octets
 
@@ -43,31 +44,15 @@ halves_read os front rest pairs e long each =
 
 -- without the spare half
 pub used_read : (odd : Bool) (os text : List ℕ) → text ≡ digits_of (halves os) → cond odd (but_last text) text ≡ digits_of (signals_in odd os)
-used_read true os text e =
-    ap but_last e ∙ take-map (λ s. s + 48) (length (digits_of (halves os)) - 1) (halves os) ∙ ap (λ n. digits_of (take (n - 1) (halves os))) (length-map (halves os) (λ s. s + 48))
-used_read false os text e = e
+used_read odd os text e = rw e (grind (arith, common_steps, take-map))
 
 -- without the end signal
-end_read : (ss : List ℕ) → eqb (get_or (digits_of ss) (length (digits_of ss) - 1) 0) 63 ≡ eqb (get_or ss (length ss - 1) 0) 15
-end_read [] = refl
-end_read (s ∷ rest) =
-    let ss = s ∷ rest in
-    let e : length (digits_of (s ∷ rest)) - 1 ≡ length (s ∷ rest) - 1 = omega (arith, length-map (s ∷ rest) (λ s. s + 48)) in
-    ap (λ n. eqb (get_or (digits_of ss) n 0) 63) e
-    ∙ ap (λ c. eqb c 63) (get_or-map (λ s. s + 48) ss (length ss - 1) 0 0 (omega arith))
-    ∙ shifted (get_or ss (length ss - 1) 0)
-  where
-    shifted : (s : ℕ) → eqb (s + 48) 63 ≡ eqb s 15
-    shifted s = grind (arith, nat_tests)
-
 pub without_read : (ss text : List ℕ) → text ≡ digits_of ss → cond (eqb (get_or text (length text - 1) 0) 63) (but_last text) text ≡ digits_of (without_end ss)
-without_read ss text e =
-    ap (λ l. cond (eqb (get_or l (length l - 1) 0) 63) (but_last l) l) e
-    ∙ ap (λ b. cond b (but_last (digits_of ss)) (digits_of ss)) (end_read ss)
-    ∙ elim (eqb (get_or ss (length ss - 1) 0) 15) as (λ b. cond b (but_last (digits_of ss)) (digits_of ss) ≡ digits_of (cond b (but_last ss) ss)) [
-      | true ↦ take-map (λ s. s + 48) (length (digits_of ss) - 1) ss ∙ ap (λ n. digits_of (take (n - 1) ss)) (length-map ss (λ s. s + 48))
-      | false ↦ refl
-    ]
+without_read ss text e = grind (arith, nat_tests, common_steps)
+
+-- more octets than a number takes
+pub too_many : (odd : Bool) (os : List ℕ) → 11 < length os → Err TooMany ≡ unpacked odd os
+too_many odd os h = let l = length_halves os in grind (arith, nat_tests, common_steps)
 
 -- packed octets by their place
 
@@ -89,58 +74,15 @@ packed_at (s ∷ t ∷ rest) (suc n) =
     let b : suc (suc (2 * n)) + 1 ≡ suc (suc (2 * n + 1)) = omega arith in
     rw (a, b) (packed_at rest n)
 
-pub length_ended : (d : List ℕ) → length (ended d) ≡ length d + 1
-length_ended d = omega (arith, length_push (signals d) 15, length-map d (λ c. c - 48))
+length_ended : (d : List ℕ) → length (ended d) ≡ length d + 1
+length_ended d = grind (arith, common_steps)
 
 pub length_packed_ended : (d : List ℕ) → length (packed (ended d)) ≡ octets_for (length d)
 length_packed_ended d = omega (arith, length_packed (ended d), length_ended d)
 
 -- the signals of a number by their place
-
-pub digit_signal : (d : List ℕ) (k : ℕ) → k < length d → get_or d k 0 - 48 ≡ get_or (ended d) k 0
-digit_signal d k h =
-    let l : k < length (signals d) = omega (arith, length-map d (λ c. c - 48)) in
-    sym (get_or_append_left (signals d) (15 ∷ []) 0 k l ∙ get_or-map (λ c. c - 48) d k 0 0 h)
-
-pub end_signal : (d : List ℕ) (k : ℕ) → k ≡ length d → 15 ≡ get_or (ended d) k 0
-end_signal d k e = sym (get_or_at (signals d) 15 [] 0 k (length-map d (λ c. c - 48) ∙ sym e))
-
-pub spare_signal : (d : List ℕ) (k : ℕ) → length d < k → 0 ≡ get_or (ended d) k 0
-spare_signal d k h = sym (get_or_past (ended d) k 0 (omega (arith, length_ended d)))
-
 pub signal_at_is : (d : Digits) (k : ℕ) → signal_at d.count d.octets k ≡ get_or (ended (characters d)) k 0
-signal_at_is d k = by (ltb k d.count) refl (eqb k d.count) refl where
-  by : (a : Bool) → a ≡ ltb k d.count → (b : Bool) → b ≡ eqb k d.count → cond a (get_or d.octets k 0 - 48) (cond b 15 0) ≡ get_or (ended (characters d)) k 0
-  by true p b q =
-      let h : k < d.count = grind (arith, nat_tests) in
-      let l : k < length (characters d) = omega (arith, length_characters d) in
-      ap (λ x. x - 48) (sym (get_or-take d.count d.octets k 0 h)) ∙ digit_signal (characters d) k l
-  by false p true q = let h : k ≡ d.count = grind (arith, nat_tests) in end_signal (characters d) k (h ∙ sym (length_characters d))
-  by false p false q =
-      let h : d.count < k = grind (arith, nat_tests) in
-      let l : length (characters d) < k = omega (arith, length_characters d) in
-      spare_signal (characters d) k l
-
--- more octets than a number takes
-
-length_but_last : (xs : List ℕ) → length (but_last xs) ≡ length xs - 1
-length_but_last xs = length-take-le (length xs - 1) xs (omega arith)
-
-signals_least : (odd : Bool) (os : List ℕ) → 2 * length os - 1 ≤ length (signals_in odd os)
-signals_least true os = omega (arith, length_but_last (halves os), length_halves os)
-signals_least false os = omega (arith, length_halves os)
-
-without_least : (ss : List ℕ) → length ss - 1 ≤ length (without_end ss)
-without_least ss =
-    elim (eqb (get_or ss (length ss - 1) 0) 15) as (λ b. length ss - 1 ≤ length (cond b (but_last ss) ss)) [ true ↦ omega (arith, length_but_last ss) | false ↦ omega arith ]
-
-pub too_many : (odd : Bool) (os : List ℕ) → 11 < length os → Err TooMany ≡ unpacked odd os
-too_many odd os h =
-    let ss = signals_in odd os in
-    sym (over (digits_of (without_end ss)) (omega (arith, length-map (without_end ss) (λ s. s + 48), without_least ss, signals_least odd os)))
-  where
-    over : (text : List ℕ) → 20 < length text → dialled text ≡ Err TooMany
-    over text l = grind (arith, nat_tests)
+signal_at_is d k = let e = length_characters d in grind (arith, nat_tests, common_steps)
 
 -- packing is undone
 
@@ -162,9 +104,7 @@ halves_packed (s ∷ t ∷ rest) h =
     cc
 
 but_last_push : (xs : List ℕ) (y : ℕ) → but_last (xs ++ (y ∷ [])) ≡ xs
-but_last_push xs y =
-    let e : length (xs ++ (y ∷ [])) - 1 ≡ length xs = omega (arith, length_push xs y) in
-    ap (λ n. take n (xs ++ (y ∷ []))) e ∙ take_at xs (y ∷ []) (length xs) refl
+but_last_push xs y = grind (arith, common_steps)
 
 pub undone : PackingIsUndone
 undone ss h = by (odd_count (length ss)) (halves_packed ss h) where
@@ -172,21 +112,19 @@ undone ss h = by (odd_count (length ss)) (halves_packed ss h) where
   by true e = ap but_last e ∙ but_last_push ss 0
   by false e = e ∙ append-nil ss
 
-ended_fits : (d : List ℕ) → ((k : ℕ) → k < length d → (48 ≤ get_or d k 0) × (get_or d k 0 ≤ 57)) → Halves (ended d)
+ended_fits : (d : List ℕ) → ((k : ℕ) → k < length d → Digit (get_or d k 0)) → Halves (ended d)
 ended_fits [] each = (omega arith, tt)
-ended_fits (c ∷ cs) each = (let h = each 0 (omega arith) in omega arith, ended_fits cs (λ k h. each (suc k) (omega arith)))
+ended_fits (c ∷ cs) each = let h = each 0 (omega arith) in (omega arith, ended_fits cs (λ k h. each (suc k) (omega arith)))
 
-digits_back : (d : List ℕ) → ((k : ℕ) → k < length d → (48 ≤ get_or d k 0) × (get_or d k 0 ≤ 57)) → digits_of (signals d) ≡ d
+digits_back : (d : List ℕ) → ((k : ℕ) → k < length d → Digit (get_or d k 0)) → digits_of (signals d) ≡ d
 digits_back [] each = refl
 digits_back (c ∷ cs) each =
     let h = each 0 (omega arith) in
-    let e : c - 48 + 48 ≡ c = omega arith in
-    ap (λ x. x ∷ digits_of (signals cs)) e ∙ ap (λ l. c ∷ l) (digits_back cs (λ k l. each (suc k) (omega arith)))
+    let more = digits_back cs (λ k l. each (suc k) (omega arith)) in
+    grind arith
 
 without_ended : (ss : List ℕ) → without_end (ss ++ (15 ∷ [])) ≡ ss
-without_ended ss =
-    let e : length ss ≡ length (ss ++ (15 ∷ [])) - 1 = omega (arith, length_push ss 15) in
-    ap (λ x. cond (eqb x 15) (but_last (ss ++ (15 ∷ []))) (ss ++ (15 ∷ []))) (get_or_at ss 15 [] 0 (length (ss ++ (15 ∷ [])) - 1) e) ∙ but_last_push ss 15
+without_ended ss = grind (arith, nat_tests, common_steps)
 
 -- a number comes back from the octets that it is packed into
 pub number_back : (d : List ℕ) → Number d → unpacked (odd_count (length d + 1)) (packed (ended d)) ≡ Ok d
