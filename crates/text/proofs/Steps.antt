@@ -1,5 +1,5 @@
 -- The steps of the loops that read lines and octets. Rests on the definitions of specs/.
-use Rattle.std.proofs.Common.{◌≡◌, ℕ, ◌+◌, ◌≤◌, Bool, true, false, cond, not, ltb, unwrap_or, position, List, [], ◌∷◌, ◌++◌, length, drop, Some, None, Ok, Err, Option, Result, sym, refl, ap, ◌∙◌, append_assoc, arith}
+use Rattle.std.proofs.Common.{◌≡◌, ℕ, ◌+◌, ◌-◌, ◌≤◌, Bool, false, cond, not, unwrap_or, position, List, [], ◌∷◌, ◌++◌, length, drop, Some, None, Ok, Err, Option, Result, sym, refl, ap, ◌∙◌, append_assoc, arith}
 use Rattle.std.proofs.lemmas.List.Sums.{prefix_len-le-length}
 use Rattle.std.proofs.lemmas.Bool.Decides.{nat_tests}
 use Rattle.std.specs.List.{position_or_len}
@@ -22,8 +22,19 @@ joined_twice : (xs ys : List ℕ) (r : Result (List ℕ) HexFault) → joined xs
 joined_twice xs ys (Ok zs) = ap Ok (sym (append_assoc xs ys zs))
 joined_twice xs ys (Err f) = refl
 
--- one octet more, with those read so far in front
-pub octet_more : (read : List ℕ) (p c : ℕ) (cs : List ℕ) (octet : ℕ) → false ≡ blank c → Ok octet ≡ octet_of p c cs → 1 ≤ length cs
-    → joined (read ++ octet ∷ []) (octets_from 0 (p + 2) (drop 1 cs)) ≡ joined read (octets_from 0 p (c ∷ cs))
-octet_more read p c [] octet e o some = absurd (omega arith)
-octet_more read p c (d ∷ cs) octet e o some = let twice = joined_twice read (octet ∷ []) (octets_from 0 (p + 2) cs) in grind (arith, nat_tests)
+-- what follows an octet that was tried at p
+abbrev then_octet : ℕ → List ℕ → Result ℕ HexFault → Result (List ℕ) HexFault
+then_octet p cs (Err f) = Err f
+then_octet p cs (Ok octet) = joined (octet ∷ []) (octets_from 1 (p + 1) cs)
+
+-- one octet more, with those read so far in front, in a text of n characters
+pub octet_more : (n : ℕ) (read : List ℕ) (c : ℕ) (cs : List ℕ) (octet : ℕ) → length (c ∷ cs) ≤ n → false ≡ blank c → Ok octet ≡ octet_of (n - length (c ∷ cs)) c cs → 1 ≤ length cs
+    → joined (read ++ octet ∷ []) (octets_from 0 (n - length (drop 1 cs)) (drop 1 cs)) ≡ joined read (octets_from 0 (n - length (c ∷ cs)) (c ∷ cs))
+octet_more n read c [] octet fits e o some = absurd (omega arith)
+octet_more n read c (d ∷ cs) octet fits e o some =
+    let p = n - length (c ∷ d ∷ cs) in
+    let two : n - length cs ≡ n - length (c ∷ d ∷ cs) + 1 + 1 = omega arith in
+    ap (λ k. joined (read ++ octet ∷ []) (octets_from 0 k cs)) two
+    ∙ sym (joined_twice read (octet ∷ []) (octets_from 0 (p + 1 + 1) cs))
+    ∙ ap (λ r. joined read (then_octet p (d ∷ cs) r)) o
+    ∙ ap (λ b. joined read (cond b (octets_from 0 (p + 1) (d ∷ cs)) (then_octet p (d ∷ cs) (octet_of p c (d ∷ cs))))) e
