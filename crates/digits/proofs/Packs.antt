@@ -1,6 +1,6 @@
 -- The steps of packing and unpacking, and that unpacking undoes packing.
 -- Rests on specs/Signals and on the steps of reading.
-use Rattle.std.proofs.Common.{◌≡◌, ℕ, zero, suc, ◌+◌, ◌-◌, ◌*◌, ◌/◌, ◌%◌, ◌<◌, Bool, true, false, cond, eqb, List, [], ◌∷◌, ◌++◌, map, length, get_or, take, Ok, Err, Result, sym, refl, ap, ◌∙◌, arith}
+use Rattle.std.proofs.Common.{◌≡◌, ℕ, zero, suc, ◌+◌, ◌-◌, ◌*◌, ◌/◌, ◌%◌, ◌<◌, Bool, true, false, if◌then◌else◌, ◌==◌, List, [], ◌∷◌, ◌++◌, map, length, get_or, take, Ok, Err, Result, sym, refl, ap, ◌∙◌, arith}
 use Rattle.std.proofs.lemmas.Grind.{common_steps}
 use Rattle.std.proofs.lemmas.List.{take_at, length-map, take-map, ext_get_or, get_or-map, append-nil}
 use Rattle.std.proofs.lemmas.List.Concat.{flat_map-append}
@@ -43,11 +43,11 @@ halves_read os front rest pairs e long each =
     ∙ pairs_read os
 
 -- without the spare half
-pub used_read : (odd : Bool) (os text : List ℕ) → text ≡ digits_of (halves os) → cond odd (but_last text) text ≡ digits_of (signals_in odd os)
+pub used_read : (odd : Bool) (os text : List ℕ) → text ≡ digits_of (halves os) → (if odd then but_last text else text) ≡ digits_of (signals_in odd os)
 used_read odd os text e = rw e (grind (arith, common_steps, take-map))
 
 -- without the end signal
-pub without_read : (ss text : List ℕ) → text ≡ digits_of ss → cond (eqb (get_or text (length text - 1) 0) 63) (but_last text) text ≡ digits_of (without_end ss)
+pub without_read : (ss text : List ℕ) → text ≡ digits_of ss → (if get_or text (length text - 1) 0 == 63 then but_last text else text) ≡ digits_of (without_end ss)
 without_read ss text e = grind (arith, nat_tests, common_steps)
 
 -- more octets than a number takes
@@ -87,10 +87,10 @@ signal_at_is d k = let e = length_characters d in grind (arith, nat_tests, commo
 -- packing is undone
 
 odd_two : (n : ℕ) → odd_count (suc (suc n)) ≡ odd_count n
-odd_two n = let e : suc (suc n) % 2 ≡ n % 2 = omega arith in ap (λ x. eqb x 1) e
+odd_two n = let e : suc (suc n) % 2 ≡ n % 2 = omega arith in ap (λ x. x == 1) e
 
 -- the halves of packed signals: those, and after an odd count a spare 0
-halves_packed : (ss : List ℕ) → Halves ss → halves (packed ss) ≡ ss ++ cond (odd_count (length ss)) (0 ∷ []) []
+halves_packed : (ss : List ℕ) → Halves ss → halves (packed ss) ≡ ss ++ (if odd_count (length ss) then 0 ∷ [] else [])
 halves_packed [] h = refl
 halves_packed (s ∷ []) h =
     let a : s % 16 ≡ s = omega (arith, h.0) in
@@ -108,7 +108,7 @@ but_last_push xs y = grind (arith, common_steps)
 
 pub undone : PackingIsUndone
 undone ss h = by (odd_count (length ss)) (halves_packed ss h) where
-  by : (b : Bool) → halves (packed ss) ≡ ss ++ cond b (0 ∷ []) [] → signals_in b (packed ss) ≡ ss
+  by : (b : Bool) → halves (packed ss) ≡ ss ++ (if b then 0 ∷ [] else []) → signals_in b (packed ss) ≡ ss
   by true e = ap but_last e ∙ but_last_push ss 0
   by false e = e ∙ append-nil ss
 
