@@ -3,13 +3,15 @@ ghost use Rattle.std.specs.Prelude.{◌≡◌, ℕ, ◌<◌, ◌≤◌, length, 
 mod packing;
 mod reading;
 
+use crate::types::MOST_DIGITS;
 pub use packing::{packing_is_undone, unpack};
 pub use reading::is_digit;
 
 /// A dialled number: 1 to 20 digits as IA5 characters, held by value.
-#[derive(Clone, Copy, Debug)]
+// A fixed array and a count: what a side holds is of fixed size and copied, so no Vec and no String.
+#[derive(Clone, Copy, Eq, Debug)]
 pub struct Digits {
-    octets: [u8; 20],
+    octets: [u8; MOST_DIGITS],
     count: usize,
     ghost room: { length octets ≡ 20 },
     ghost some: { 1 ≤ count },

@@ -1,3 +1,4 @@
+use std::error::Error;
 use std::fmt;
 
 /// The most digits that a dialled number has.
@@ -23,18 +24,22 @@ pub enum PackFault {
 
 impl fmt::Display for DigitFault {
     fn fmt<W: fmt::Write>(&self, f: &mut fmt::Formatter<W>) -> fmt::Result {
-        match *self {
-            DigitFault::NoDigits => write!(f, "no digits"),
-            DigitFault::TooMany => write!(f, "more than 20 digits"),
+        match self {
+            DigitFault::NoDigits => f.write_str("no digits"),
+            DigitFault::TooMany => f.write_str("more than 20 digits"),
             DigitFault::NotADigit(at) => write!(f, "no digit at place {at}"),
         }
     }
 }
 
+impl Error for DigitFault {}
+
 impl fmt::Display for PackFault {
     fn fmt<W: fmt::Write>(&self, f: &mut fmt::Formatter<W>) -> fmt::Result {
-        match *self {
-            PackFault::NoRoom => write!(f, "no room for the packed digits"),
-        }
+        f.write_str(match self {
+            PackFault::NoRoom => "no room for the packed digits",
+        })
     }
 }
+
+impl Error for PackFault {}

@@ -1,9 +1,11 @@
 ghost use Rattle.std.specs.Prelude.{◌≡◌, ◌+◌, ◌^◌, ◌<◌, ◌≤◌, length, IfSome, OnOk};
-ghost use Rattle.text.specs.Hex.{hex_value, second, octet_at, Reads};
+ghost use Rattle.text.specs.declared.types.HexFault.TheVariants.{NoMemory};
+ghost use Rattle.text.specs.Hex.{hex_value, second, octet_of, Reads};
 
 use crate::types::HexFault;
 use crate::words::is_blank;
-use std::alloc::Global;
+use std::alloc::{AllocFailed, Global};
+use std::error::Error;
 use std::fmt;
 
 /// The value of a hex digit, of either case.
@@ -36,16 +38,13 @@ fn second_digit(after: &[u8], place: usize, high: u8) -> Result<u8, HexFault>
     }
 }
 
-/// The octet whose two hex digits a text begins with, at a place.
-fn octet_at(text: &[u8], place: usize) -> Result<u8, HexFault>
+/// The octet whose first hex digit stands at a place, and whose second is to come.
+fn octet_of(first: u8, after: &[u8], place: usize) -> Result<u8, HexFault>
     requires room { place + 1 < 2 ^ 64 }
-    ensures octet { result ≡ octet_at place text.now }
-    ensures within { OnOk result (2 ≤ length text.now) }
+    ensures octet { result ≡ octet_of place first after.now }
+    ensures within { OnOk result (1 ≤ length after.now) }
 {
-    let [first, after @ ..] = text else {
-        return Err(HexFault::NotHex(place));
-    };
-    match hex_digit(char::from(*first)) {
+    match hex_digit(char::from(first)) {
         Some(high) => second_digit(after, place, high),
         None => Err(HexFault::NotHex(place)),
     }
@@ -56,30 +55,38 @@ pub fn read_octets(text: &[u8], heap: Global) -> Result<Vec<u8>, HexFault>
     ensures { Reads text.now result }
 {
     let mut octets = Vec::new(heap);
-    let mut place = 0;
-    while place < text.len() {
-        if is_blank(text[place]) {
-            place += 1;
+    let mut rest = text;
+    while let Some((first, after)) = rest.split_first() {
+        if is_blank(*first) {
+            rest = after;
         } else {
-            let octet = octet_at(&text[place..], place)?;
-            if octets.push(octet).is_err() {
-                return Err(HexFault::NoMemory);
-            }
-            place += 2;
+            let place = text.len() - rest.len();
+            octets.push(octet_of(*first, after, place)?)?;
+            rest = &after[1..];
         }
     }
     Ok(octets)
 }
 
+impl From<AllocFailed<u8>> for HexFault {
+    ghost from_gives = { λ _ fault. fault ≡ NoMemory };
+
+    fn from(_: AllocFailed<u8>) -> HexFault {
+        Self::NoMemory
+    }
+}
+
 impl fmt::Display for HexFault {
     fn fmt<W: fmt::Write>(&self, f: &mut fmt::Formatter<W>) -> fmt::Result {
-        match *self {
+        match self {
             HexFault::NotHex(place) => write!(f, "no hex digit at place {place}"),
             HexFault::OddDigit(place) => write!(f, "one hex digit alone at place {place}"),
-            HexFault::NoMemory => write!(f, "no memory for the octets"),
+            HexFault::NoMemory => f.write_str("no memory for the octets"),
         }
     }
 }
+
+impl Error for HexFault {}
 
 /// Octets to be shown: two hex digits each, in capitals, with one blank between; `-` where there are none.
 #[derive(Clone, Copy)]

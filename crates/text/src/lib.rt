@@ -1,3 +1,4 @@
+//! Lines, words and octets in hex, read out of a text, and octets shown as text.
 #![tactic(auto)]
 
 mod hex;

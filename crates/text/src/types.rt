@@ -8,14 +8,3 @@ pub enum HexFault {
     /// There is no memory for the octets.
     NoMemory,
 }
-
-/// Where a run of characters stops.
-#[derive(Clone, Copy)]
-pub enum Stop {
-    /// At this character.
-    At(u8),
-    /// At a blank.
-    Blank,
-    /// At anything but a blank.
-    Other,
-}

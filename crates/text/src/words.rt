@@ -1,8 +1,6 @@
-ghost use Rattle.std.specs.Prelude.{◌≡◌, ◌+◌, ◌<◌, ◌≤◌, [], length, drop, MatchOption};
-ghost use Rattle.text.specs.Parts.{blank, stops_at, reach, without_return, line_in, after_line, word_in, after_word, up_to_comment};
+ghost use Rattle.std.specs.Prelude.{◌≡◌, ◌<◌, [], length, MatchOption};
+ghost use Rattle.text.specs.Parts.{blank, without_return, line_in, after_line, word_in, after_word, up_to_comment};
 ghost use Rattle.std.specs.Iterator.{at_most};
-
-use crate::types::Stop;
 
 /// Whether a character is a blank: a space or a tab.
 pub fn is_blank(c: u8) -> bool
@@ -11,54 +9,11 @@ pub fn is_blank(c: u8) -> bool
     c == b' ' || c == b'\t'
 }
 
-impl Stop {
-    /// Whether a run stops at a character.
-    fn stops(self, c: u8) -> bool
-        ensures { result ≡ stops_at self c }
-    {
-        match self {
-            Stop::At(wanted) => c == wanted,
-            Stop::Blank => is_blank(c),
-            Stop::Other => !is_blank(c),
-        }
-    }
-
-    /// How many characters of a text stand before the run stops; all, where it does not.
-    fn before(self, text: &[u8]) -> usize
-        ensures count { result ≡ reach self 0 text.now }
-        ensures within { result ≤ length text.now }
-    {
-        for (k, c) in text.iter().enumerate() {
-            if self.stops(*c) {
-                return k;
-            }
-        }
-        text.len()
-    }
-}
-
 /// A line without the carriage return at its end, if there is one.
 fn without_return(line: &[u8]) -> &[u8]
     ensures { result.now ≡ without_return line.now }
 {
-    let n = line.len();
-    if n > 0 && line[n - 1] == b'\r' {
-        &line[..n - 1]
-    } else {
-        line
-    }
-}
-
-/// What stands after the character at a place.
-fn past(text: &[u8], place: usize) -> &[u8]
-    requires { place ≤ length text.now }
-    ensures { result.now ≡ drop (place + 1) text.now }
-{
-    if place < text.len() {
-        &text[place + 1..]
-    } else {
-        &text[place..]
-    }
+    line.strip_suffix(b"\r").unwrap_or(line)
 }
 
 /// The first line of a text, without its end, and what comes after it; none where there is no text.
@@ -68,8 +23,10 @@ pub fn next_line(text: &[u8]) -> Option<(&[u8], &[u8])>
     if text.is_empty() {
         return None;
     }
-    let n = Stop::At(b'\n').before(text);
-    Some((without_return(&text[..n]), past(text, n)))
+    match text.iter().position(|c| *c == b'\n') {
+        Some(n) => Some((without_return(&text[..n]), &text[n + 1..])),
+        None => Some((without_return(text), &[])),
+    }
 }
 
 /// The lines of a text, one by one.
@@ -105,7 +62,7 @@ impl<'a> Iterator for Lines<'a> {
 pub fn without_comment(line: &[u8]) -> &[u8]
     ensures { result.now ≡ up_to_comment line.now }
 {
-    let n = Stop::At(b'#').before(line);
+    let n = line.iter().position(|c| *c == b'#').unwrap_or(line.len());
     &line[..n]
 }
 
@@ -113,8 +70,14 @@ pub fn without_comment(line: &[u8]) -> &[u8]
 pub fn first_word(line: &[u8]) -> (&[u8], &[u8])
     ensures { (result.0.now ≡ word_in line.now) × (result.1.now ≡ after_word line.now) }
 {
-    let start = Stop::Other.before(line);
+    let start = line
+        .iter()
+        .position(|c| !is_blank(*c))
+        .unwrap_or(line.len());
     let from_word = &line[start..];
-    let n = Stop::Blank.before(from_word);
+    let n = from_word
+        .iter()
+        .position(|c| is_blank(*c))
+        .unwrap_or(from_word.len());
     from_word.split_at(n)
 }

@@ -1,7 +1,23 @@
 ghost use Rattle.std.specs.Prelude.{◌≡◌};
-ghost use Rattle.values.specs.Bearers.{bearer_in};
+ghost use Rattle.values.specs.Bearers.{bearer_in, capability_of};
 
 use crate::types::{BearerFault, Capability, LEAST_BEARER, MOST_BEARER};
+
+/// The capability that the code of an information transfer capability stands for.
+impl TryFrom<u8> for Capability {
+    type Error = BearerFault;
+
+    ghost try_from_gives = { λ code result. result ≡ capability_of code };
+
+    fn try_from(code: u8) -> Result<Capability, BearerFault> {
+        match code {
+            0 => Ok(Capability::Speech),
+            8 => Ok(Capability::Unrestricted),
+            16 => Ok(Capability::Audio),
+            _ => Err(BearerFault::Capability(code)),
+        }
+    }
+}
 
 /// What the contents of a bearer capability ask for; how long they are is judged first.
 pub fn bearer(contents: &[u8]) -> Result<Capability, BearerFault>
@@ -13,10 +29,5 @@ pub fn bearer(contents: &[u8]) -> Result<Capability, BearerFault>
     if contents.len() > MOST_BEARER {
         return Err(BearerFault::TooLong);
     }
-    match contents[0] % 32 {
-        0 => Ok(Capability::Speech),
-        8 => Ok(Capability::Unrestricted),
-        16 => Ok(Capability::Audio),
-        code => Err(BearerFault::Capability(code)),
-    }
+    Capability::try_from(contents[0] % 32)
 }

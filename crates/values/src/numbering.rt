@@ -22,13 +22,10 @@ impl NumberType {
         ensures is { result ≡ code_of self }
         ensures back { type_of ((128 + 16 * result + 1) / 16 % 8) ≡ Some self }
     {
-        match self {
-            NumberType::Unknown => 0,
-            NumberType::International => 1,
-            NumberType::National => 2,
-            NumberType::Subscriber => 4,
-        }
+        self as u8
     }
+
+    // By name: a `TryFrom<u8>` would not say which of the two codes, of the type or of the nature, it reads.
 
     /// The type that a nature of address stands for.
     pub fn from_nature(nature: u8) -> Option<NumberType>

@@ -1,3 +1,4 @@
+use std::error::Error;
 use std::fmt;
 
 /// The fewest octets that a bearer capability has.
@@ -28,34 +29,34 @@ pub enum BearerFault {
     Capability(u8),
 }
 
-/// How a called number is to be understood.
+/// How a called number is to be understood, with the code of each type in the number's first octet.
 #[derive(Clone, Copy, PartialEq, Eq, Debug)]
 pub enum NumberType {
     /// As it was dialled.
-    Unknown,
+    Unknown = 0,
     /// From the country code on.
-    International,
+    International = 1,
     /// From the area code on.
-    National,
+    National = 2,
     /// The subscriber's own number.
-    Subscriber,
+    Subscriber = 4,
 }
 
 impl fmt::Display for Capability {
     fn fmt<W: fmt::Write>(&self, f: &mut fmt::Formatter<W>) -> fmt::Result {
-        match *self {
-            Capability::Speech => write!(f, "speech"),
-            Capability::Unrestricted => write!(f, "unrestricted digital information"),
-            Capability::Audio => write!(f, "3.1 kHz audio"),
-        }
+        f.write_str(match self {
+            Capability::Speech => "speech",
+            Capability::Unrestricted => "unrestricted digital information",
+            Capability::Audio => "3.1 kHz audio",
+        })
     }
 }
 
 impl fmt::Display for BearerFault {
     fn fmt<W: fmt::Write>(&self, f: &mut fmt::Formatter<W>) -> fmt::Result {
-        match *self {
-            BearerFault::TooShort => write!(f, "a bearer capability of fewer than 2 octets"),
-            BearerFault::TooLong => write!(f, "a bearer capability of more than 11 octets"),
+        match self {
+            BearerFault::TooShort => f.write_str("a bearer capability of fewer than 2 octets"),
+            BearerFault::TooLong => f.write_str("a bearer capability of more than 11 octets"),
             BearerFault::Capability(code) => write!(
                 f,
                 "information transfer capability {code} is not served"
@@ -64,13 +65,15 @@ impl fmt::Display for BearerFault {
     }
 }
 
+impl Error for BearerFault {}
+
 impl fmt::Display for NumberType {
     fn fmt<W: fmt::Write>(&self, f: &mut fmt::Formatter<W>) -> fmt::Result {
-        match *self {
-            NumberType::Unknown => write!(f, "unknown number"),
-            NumberType::International => write!(f, "international number"),
-            NumberType::National => write!(f, "national number"),
-            NumberType::Subscriber => write!(f, "subscriber number"),
-        }
+        f.write_str(match self {
+            NumberType::Unknown => "unknown number",
+            NumberType::International => "international number",
+            NumberType::National => "national number",
+            NumberType::Subscriber => "subscriber number",
+        })
     }
 }

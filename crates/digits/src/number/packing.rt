@@ -1,6 +1,6 @@
-ghost use Rattle.std.specs.Prelude.{◌≡◌, ℕ, ◌+◌, ◌-◌, ◌*◌, ◌/◌, ◌<◌, ◌≤◌, List, length, if◌then◌else◌, Ok, nat_eq};
+ghost use Rattle.std.specs.Prelude.{◌≡◌, ℕ, ◌+◌, ◌-◌, ◌*◌, ◌/◌, ◌%◌, ◌<◌, ◌≤◌, List, [], ◌∷◌, length, if◌then◌else◌, Ok, ◌==◌, slice_index};
 ghost use Rattle.digits.specs.Dialling.{Number, characters, held_by};
-ghost use Rattle.digits.specs.Signals.{ended, packed, half_at, signal_at, signals_in, without_end, unpacked, odd_count, octets_for, Written, PackingIsUndone};
+ghost use Rattle.digits.specs.Signals.{ended, packed, signal_at, but_last, unpacked, odd_count, octets_for, Written, PackingIsUndone};
 
 use super::Digits;
 use crate::types::{DigitFault, PackFault};
@@ -8,55 +8,37 @@ use crate::types::{DigitFault, PackFault};
 /// The signal F, which stands after the last digit.
 const END_OF_DIGITS: u8 = 15;
 
+/// The character that the end signal is read as, past the digits.
+const END_CHARACTER: u8 = b'0' + END_OF_DIGITS;
+
 /// The most octets that a dialled number is packed into: 20 digits, the end signal and a spare half.
 const MOST_OCTETS: usize = 11;
 
-/// The most signals in that many octets.
-const MOST_SIGNALS: usize = 22;
-
-/// The signal in half `k` of packed octets, where the low half of each octet comes first.
-fn half(octets: &[u8], k: usize) -> u8
-    requires { k / 2 < length octets.now }
-    ensures signal { result ≡ half_at octets.now k }
-    ensures fits { result < 16 }
+/// The signals in the halves of an octet, the low half first, as characters.
+fn characters_in(octet: u8) -> [u8; 2]
+    ensures { result ≡ (octet % 16 + 48) ∷ (octet / 16 + 48) ∷ [] }
 {
-    let octet = octets[k / 2];
-    if k % 2 == 0 { octet % 16 } else { octet / 16 }
+    [octet % 16 + b'0', octet / 16 + b'0']
 }
 
-/// How many halves of octets hold signals: all of them, or all but the spare one.
-fn halves_used(octets: &[u8], odd: bool) -> usize
-    requires some { 1 ≤ length octets.now }
-    requires few { length octets.now ≤ 11 }
-    ensures count { result ≡ (if odd then 2 * length octets.now - 1 else 2 * length octets.now) }
-    ensures some { 1 ≤ result }
-    ensures most { result ≤ 2 * length octets.now }
+/// The signals in halves of octets: all of them, or all but the last, where that is spare.
+fn without_spare(halves: &[u8], odd: bool) -> &[u8]
+    ensures { result.now ≡ (if odd then but_last halves.now else halves.now) }
 {
-    if odd {
-        2 * octets.len() - 1
-    } else {
-        2 * octets.len()
+    match halves {
+        [signals @ .., _] if odd => signals,
+        _ => halves,
     }
 }
 
-/// How many of `count` signals are left without the end signal, if that is the last of them.
-fn without_end(count: usize, last: u8) -> usize
-    requires { 1 ≤ count }
-    ensures { result ≡ (if nat_eq last 15 then count - 1 else count) }
+/// A text without one final character of the end signal.
+fn without_end(text: &[u8]) -> &[u8]
+    ensures { result.now ≡ (if slice_index text.now (length text.now - 1) == 63 then but_last text.now else text.now) }
 {
-    if last == END_OF_DIGITS {
-        count - 1
-    } else {
-        count
+    match text {
+        [digits @ .., END_CHARACTER] => digits,
+        _ => text,
     }
-}
-
-/// How many octets so many digits are packed into, with the end signal after them.
-fn octets_for(count: usize) -> usize
-    requires { count ≤ 20 }
-    ensures { result ≡ octets_for count }
-{
-    count / 2 + 1
 }
 
 /// Two signals in one octet, the first in the low half.
@@ -65,19 +47,6 @@ fn pair(first: u8, second: u8) -> u8
     ensures { result ≡ first + 16 * second }
 {
     first + 16 * second
-}
-
-/// How many signals octets hold, without the spare half and without one final end signal.
-fn signal_count(octets: &[u8], odd: bool) -> usize
-    requires { length octets.now ≤ 11 }
-    ensures count { result ≡ length (without_end (signals_in odd octets.now)) }
-    ensures most { result ≤ 2 * length octets.now }
-{
-    if octets.is_empty() {
-        return 0;
-    }
-    let count = halves_used(octets, odd);
-    without_end(count, half(octets, count - 1))
 }
 
 /// Reads the digits out of packed signals; where `odd`, the last half is spare and may hold anything.
@@ -89,12 +58,11 @@ pub fn unpack(octets: &[u8], odd: bool) -> Result<Digits, DigitFault>
     if octets.len() > MOST_OCTETS {
         return Err(DigitFault::TooMany);
     }
-    let count = signal_count(octets, odd);
-    let mut text = [0u8; MOST_SIGNALS];
-    for k in 0..count {
-        text[k] = half(octets, k) + b'0';
-    }
-    Digits::read(&text[0..count])
+    let mut held = [0u8; MOST_OCTETS];
+    held[..octets.len()].copy_from_slice(octets);
+    let halves = held.map(characters_in);
+    let text = without_spare(&halves.as_flattened()[..2 * octets.len()], odd);
+    Digits::read(without_end(text))
 }
 
 /// Signals come back from the octets that they are packed into, with or without an end signal among them.
@@ -132,7 +100,7 @@ impl Digits {
         ensures whole { result ≡ length (packed (ended (characters self.now))) }
         ensures most { result ≤ 11 }
     {
-        octets_for(self.count)
+        self.count / 2 + 1
     }
 
     /// Packs the digits and the end signal into the front of `out`, and answers how many octets that took.
@@ -143,8 +111,8 @@ impl Digits {
         if out.len() < needed {
             return Err(PackFault::NoRoom);
         }
-        for n in 0..needed {
-            out[n] = pair(self.signal(2 * n), self.signal(2 * n + 1));
+        for (n, octet) in out[..needed].iter_mut().enumerate() {
+            *octet = pair(self.signal(2 * n), self.signal(2 * n + 1));
         }
         Ok(needed)
     }

@@ -22,15 +22,12 @@ pub fn is_digit(c: char) -> bool
 fn first_stray(text: &[u8]) -> Option<usize>
     ensures { result ≡ stray_from 0 text.now }
 {
-    for (k, b) in text.iter().enumerate() {
-        if !is_digit(char::from(*b)) {
-            return Some(k);
-        }
-    }
-    None
+    text.iter().position(|c| !is_digit(char::from(*c)))
 }
 
 impl Digits {
+    // By name: a TryFrom<&[u8]> would not say whether octets are characters or packed signals.
+
     /// Reads the digits of an IA5 text: all of it, or the fault says why not.
     pub fn read(text: &[u8]) -> Result<Digits, DigitFault>
         ensures { held_by result ≡ dialled text.now }
@@ -55,9 +52,7 @@ impl Digits {
         ensures { characters result ≡ text.now }
     {
         let mut octets = [0u8; MOST_DIGITS];
-        for (k, b) in text.iter().enumerate() {
-            octets[k] = *b;
-        }
+        octets[..text.len()].copy_from_slice(text);
         Digits {
             octets,
             count: text.len(),
@@ -68,7 +63,7 @@ impl Digits {
     pub fn as_octets(&self) -> &[u8]
         ensures { result.now ≡ characters self.now }
     {
-        &self.octets[0..self.count]
+        &self.octets[..self.count]
     }
 
     /// How many digits there are.
@@ -79,6 +74,7 @@ impl Digits {
     }
 }
 
+// By hand: a derived == would compare the padding, and the promise is about the characters.
 impl PartialEq for Digits {
     ghost eq = { on characters (pointwise ◌==◌) };
 
@@ -90,8 +86,4 @@ impl PartialEq for Digits {
     {
         self.as_octets() == other.as_octets()
     }
-}
-
-impl Eq for Digits {
-    ghost laws = { Prim.search (comparing, rules) };
 }

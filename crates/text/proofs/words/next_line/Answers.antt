@@ -1,20 +1,22 @@
-use Rattle.std.proofs.Common.{◌+◌, ◌<◌, length, take, drop, ap, ◌∙◌, arith, length-drop}
-use Rattle.std.proofs.lemmas.List.{nil_from_length}
+use Rattle.std.proofs.Common.{sym, ◌∙◌, ◌==◌, arith, rules}
 use Rattle.std.proofs.lemmas.Bool.Decides.{nat_tests}
-use Rattle.text.specs.Parts.{without_return}
+use borrow.Author.Tests.{tests}
+use Rattle.std.proofs.lemmas.Grind.{common_steps}
+use Rattle.std.proofs.lemmas.Iterator.{YieldsList-from_slice}
+use Rattle.std.proofs.lemmas.Iterator.Search.{position_from_yields_List}
+use Rattle.text.proofs.Steps.{found, to_end}
 use Rattle.text.proofs.words.next_line.Goals as goal
 
-pub returns-then-is_empty : goal.returns-then-is_empty
-returns-then-is_empty c =
-    let e = c.if-is_empty.ensures in
-    nil_from_length c.args.text.now (grind (arith, nat_tests))
-
-pub returns : goal.returns
-returns c =
+pub returns-in-Some : goal.returns-in-Some
+returns-in-Some c =
     let text = c.args.text.now in
-    let e = c.if-is_empty.ensures in
-    let some : 0 < length text = grind (arith, nat_tests) in (
-      c.without_return.ensures ∙ ap (λ k. without_return (take k text)) c.before-n.ensures.count,
-      c.past.ensures ∙ ap (λ k. drop (k + 1) text) c.before-n.ensures.count,
-      omega (arith, ap length c.past.ensures, length-drop (c.before-n.result + 1) text),
-    )
+    let place = position_from_yields_List (λ c. c == 10) _ _ c.position.result c.position.ensures.ran (YieldsList-from_slice text cc) (λ x b q k. search (rules, tests)) in
+    let at = found (λ c. c == 10) text c.in-Some.n (sym c.in-Some.is ∙ place) in
+    grind (arith, common_steps, nat_tests)
+
+pub returns-in-None : goal.returns-in-None
+returns-in-None c =
+    let text = c.args.text.now in
+    let place = position_from_yields_List (λ c. c == 10) _ _ c.position.result c.position.ensures.ran (YieldsList-from_slice text cc) (λ x b q k. search (rules, tests)) in
+    let end = to_end (λ c. c == 10) text (sym c.in-None.is ∙ place) in
+    grind (arith, common_steps, nat_tests)

@@ -1,18 +1,15 @@
-use Rattle.std.proofs.Common.{true, false, sym, ap, ◌∙◌}
-use Rattle.std.proofs.lemmas.List.{at_drop_all}
-use Rattle.digits.specs.Dialling.{stray_from, digit_char}
-use Rattle.digits.proofs.Steps.{stray_at}
+use borrow.Author.Tests.{tests}
+use Rattle.std.proofs.Common.{◌∙◌, not, rules}
+use Rattle.std.proofs.lemmas.Iterator.{YieldsList-from_slice}
+use Rattle.std.proofs.lemmas.Iterator.Search.{position_from_yields_List}
+use Rattle.std.proofs.lemmas.Iterator.Adapters.{position_from-zero}
+use Rattle.digits.specs.Dialling.{digit_char}
+use Rattle.digits.proofs.Steps.{stray_is}
 use Rattle.digits.proofs.number.reading.first_stray.Goals as goal
 
-pub returns-then-not-is_digit : goal.returns-then-not-is_digit
-returns-then-not-is_digit c =
-    let e = c.if-not-is_digit.ensures ∙ ap digit_char c.from.ensures in
-    sym (stray_at c.args.text.now c.loop-k.k c.loop-k-test.true false e) ∙ c.loop-k.invariant
-
-pub loop-k-preserved : goal.loop-k-preserved
-loop-k-preserved c =
-    let e = c.if-not-is_digit.ensures ∙ ap digit_char c.from.ensures in
-    sym (stray_at c.args.text.now c.loop-k.k c.loop-k-test.true true e) ∙ c.loop-k.invariant
-
 pub returns : goal.returns
-returns c = sym (at_drop_all (stray_from c.loop-k.k) c.args.text.now c.loop-k.k c.loop-k-test.false) ∙ c.loop-k.invariant
+returns c =
+    let text = c.args.text.now in
+    position_from_yields_List (λ c. not (digit_char c)) _ _ c.position.result c.position.ensures.ran (YieldsList-from_slice text cc) (λ x b q k. search (rules, tests))
+    ∙ position_from-zero (λ c. not (digit_char c)) text
+    ∙ stray_is 0 text
