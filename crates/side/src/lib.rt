@@ -30,11 +30,11 @@ pub trait Signalling {
     /// The most legs of a side.
     const MOST_LEGS: usize;
 
+    ghost MOST_LEGS: { ℕ };
+
     ghost meaning: { Meaning Self.Record };
 
-    /// The most legs, as code that is generic over the system knows them.
-    fn leg_limit() -> usize
-        ensures { result ≡ meaning.most };
+    ghost most_legs: { MOST_LEGS ≡ meaning.most };
 
     /// Which system it is, for its refusals.
     fn system() -> System
@@ -82,7 +82,11 @@ pub trait Side {
     /// The most legs.
     const MOST_LEGS: usize;
 
+    ghost MOST_LEGS: { ℕ };
+
     ghost meaning: { Meaning Self.Record };
+
+    ghost most_legs: { MOST_LEGS ≡ meaning.most };
 
     ghost records: { Self → List Self.Record };
 
