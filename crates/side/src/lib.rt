@@ -80,13 +80,10 @@ pub trait Side {
     type Record: Copy;
 
     /// The most legs.
+    // Named in no clause: a book's is its system's, and a constant that is another's gets no clause of a trait yet.
     const MOST_LEGS: usize;
 
-    ghost MOST_LEGS: { ℕ };
-
     ghost meaning: { Meaning Self.Record };
-
-    ghost most_legs: { MOST_LEGS ≡ meaning.most };
 
     ghost records: { Self → List Self.Record };
 
