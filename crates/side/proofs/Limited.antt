@@ -52,7 +52,8 @@ parts_within p =
       few = omega (arith, l.few);
     }
 
-none_within : PartsWithin []
+-- no parts
+pub none_within : PartsWithin []
 none_within = record { calling = []; called = []; low = []; high = []; user = []; are = refl; total = lit≤ tt; few = lit≤ tt }
 
 bearer_long : (b : Bearer) → (2 ≤ length (bearer_of b)) × (length (bearer_of b) ≤ 11)
@@ -79,7 +80,7 @@ bearer_served b =
         coded Audio = refl
 
 -- contents of a kind that is none of the three with rules of their own
-plain : (k : Kind) (c : Contents) → PartsWithin c.parts → (bears k ≡ false → c.parts ≡ []) → (k ≡ kind.Setup → ⊥) → (k ≡ kind.Progress → ⊥) → (k ≡ kind.Clear → ⊥) → Within k c
+pub plain : (k : Kind) (c : Contents) → PartsWithin c.parts → (bears k ≡ false → c.parts ≡ []) → (k ≡ kind.Setup → ⊥) → (k ≡ kind.Progress → ⊥) → (k ≡ kind.Clear → ⊥) → Within k c
 plain k c p b s g t = record { parts = p; bare = b; bearer = λ e. absurd (s e); number = λ e. absurd (s e); noted = λ e. absurd (g e); cause = λ e. absurd (t e) }
 
 pub within : (s : Signal) → Within (kind_of s) (contents_of s)
