@@ -86,6 +86,7 @@ impl<'a, S: Signalling> Side for LegBook<'a, S> {
         S::read(self.legs(), message)
     }
 
+    // Not one with `tell`: it would take the system's call as a closure, and be as long as the two.
     fn take(&mut self, reading: &Reading, reply: &mut [u8]) -> Result<usize, Refusal> {
         let record = self
             .get(reading.leg)
