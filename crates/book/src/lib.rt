@@ -16,46 +16,31 @@ pub struct LegBook<'a, S: Signalling> {
     records: &'a mut [S::Record],
 }
 
-/// The place of a leg's record.
-fn place_of(leg: Leg) -> usize
-    ensures { result ≡ leg.number }
-{
-    usize::from(leg.octet())
-}
-
+// The legs are named by a definition: a model of the book would hide the loan, of which a host's clauses speak.
 impl<'a, S: Signalling> LegBook<'a, S> {
     /// Opens a side over records: as many legs as there are, up to the most, all blank; the others stay as they are.
     pub fn open(records: &'a mut [S::Record]) -> LegBook<'a, S>
         ensures records { result.records.now ≡ opened S.meaning.most S.meaning.blank records.old }
         ensures lender { result.records.ghost_name ≡ records.entry.ghost_name }
     {
-        let n = records.len().min(S::leg_limit());
-        let mut i = 0;
-        while i < n {
-            records[i] = S::blank();
-            i += 1;
-        }
+        let n = S::MOST_LEGS.min(records.len());
+        records[..n].fill_with(|| S::blank());
         LegBook { records }
     }
 
-    /// How many legs there are.
-    fn count(&self) -> usize
-        ensures { result ≡ length (legs_of S.meaning.most self.now.records.now) }
+    /// The records of the legs that are there.
+    fn held(&self) -> &[S::Record]
+        ensures { result.now ≡ legs_of S.meaning.most self.now.records.now }
     {
-        self.records.len().min(S::leg_limit())
+        let n = S::MOST_LEGS.min(self.records.len());
+        &self.records[..n]
     }
 
     /// The record of a leg, if it is there.
     fn get(&self, leg: Leg) -> Option<S::Record>
-        ensures { result ≡ (if nat_lt leg.number (length (legs_of S.meaning.most self.now.records.now)) then Some (slice_index_or (legs_of S.meaning.most self.now.records.now) leg.number S.meaning.blank) else None) }
+        ensures { let legs = legs_of S.meaning.most self.now.records.now in result ≡ (if nat_lt leg.number (length legs) then Some (slice_index_or legs leg.number S.meaning.blank) else None) }
     {
-        let n = place_of(leg);
-        if n < self.count() {
-            let records = &*self.records;
-            Some(records[n])
-        } else {
-            None
-        }
+        self.held().get(leg.number()).copied()
     }
 
     /// Writes a leg's record whole in its place.
@@ -65,7 +50,7 @@ impl<'a, S: Signalling> LegBook<'a, S> {
         ensures rest { drop S.meaning.most self.new.records.now ≡ drop S.meaning.most self.old.records.now }
         ensures lender { self.new.records.ghost_name ≡ self.old.records.ghost_name }
     {
-        let n = place_of(leg);
+        let n = leg.number();
         self.records[n] = next;
     }
 }
@@ -86,43 +71,35 @@ impl<'a, S: Signalling> Side for LegBook<'a, S> {
     ghost lender = { λ s. s.records.ghost_name };
 
     fn legs(&self) -> usize {
-        self.count()
+        self.held().len()
     }
 
     fn callable(&self, leg: Leg) -> bool {
-        leg.number() < self.count() && S::callable(leg)
+        leg.number() < self.legs() && S::callable(leg)
     }
 
     fn phase(&self, leg: Leg) -> Option<Phase> {
-        match self.get(leg) {
-            Some(record) => Some(S::phase(record)),
-            None => None,
-        }
+        self.get(leg).map(|record| S::phase(record))
     }
 
     fn read(&self, message: &[u8]) -> Result<Reading, Refusal> {
-        S::read(self.count(), message)
+        S::read(self.legs(), message)
     }
 
+    // Not one with `tell`: it would take the system's call as a closure, and be as long as the two.
     fn take(&mut self, reading: &Reading, reply: &mut [u8]) -> Result<usize, Refusal> {
-        match self.get(reading.leg) {
-            Some(record) => {
-                let (next, n) = S::take(record, reading, reply)?;
-                self.put(reading.leg, next);
-                Ok(n)
-            }
-            None => Err(no_row(S::system(), reply.len())),
-        }
+        let record = self
+            .get(reading.leg)
+            .ok_or(no_row(S::system(), reply.len()))?;
+        let (next, n) = S::take(record, reading, reply)?;
+        self.put(reading.leg, next);
+        Ok(n)
     }
 
     fn tell(&mut self, leg: Leg, signal: &Signal, message: &mut [u8]) -> Result<usize, Refusal> {
-        match self.get(leg) {
-            Some(record) => {
-                let (next, n) = S::tell(record, leg, signal, message)?;
-                self.put(leg, next);
-                Ok(n)
-            }
-            None => Err(no_row(S::system(), message.len())),
-        }
+        let record = self.get(leg).ok_or(no_row(S::system(), message.len()))?;
+        let (next, n) = S::tell(record, leg, signal, message)?;
+        self.put(leg, next);
+        Ok(n)
     }
 }

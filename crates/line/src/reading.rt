@@ -2,13 +2,14 @@
 ghost use Rattle.std.specs.Prelude.{◌≡◌, ℕ, ◌+◌, ◌-◌, ◌^◌, ◌<◌, ◌≤◌, true, length, drop, if◌then◌else◌, Some, None, Ok, Err, MatchResult, nat_eq, slice_index};
 ghost use Rattle.side.specs.Signals.{read_as, kind_of, contents_of};
 ghost use Rattle.digits.specs.Dialling.{dialled};
-ghost use Rattle.side.specs.declared.kinds.Reason.TheVariants.{BadValue};
+ghost use Rattle.side.specs.declared.kinds.Reason.TheVariants.{BadValue, UnknownType};
 ghost use Rattle.line_meaning.specs.Lines.{refusal, headed, event_kind, heard_as, digit_place, setup_read, body_read, reads};
+ghost use Rattle.line.specs.Events.{kind_sent};
 ghost use Rattle.line.specs.Reads.{signal_as};
 
 use digits::{DigitFault, Digits};
 use side::contents::{Bearer, Cause, Number, Reading, Setup, Signal};
-use side::kinds::{Kind, Layer, Reason, Refusal, System};
+use side::kinds::{Reason, Refusal, System};
 use side::leg::Leg;
 use side::parts::Parts;
 use values::NumberType;
@@ -24,42 +25,35 @@ const HEAD: usize = 8;
 /// The longest message.
 const LONGEST: usize = 255;
 
-/// A refusal by the rules of a line's messages.
-fn refuse(reason: Reason, place: usize) -> Refusal
-    ensures { result ≡ refusal reason place }
-{
-    Refusal {
-        reason,
-        place,
-        system: System::Line,
-        layer: Layer::Message,
-    }
-}
-
 /// Whether a message has a head.
 fn has_head(message: &[u8]) -> bool
     ensures { result ≡ headed message.now }
 {
-    if message.len() < HEAD || message.len() > LONGEST {
-        return false;
-    }
-    message[0] == b'L'
-        && message[1] == b'I'
-        && message[2] == b'N'
-        && message[3] == 0x00
-        && message[4] == 0x01
+    matches!(message, [b'L', b'I', b'N', 0x00, 0x01, _, _, _, ..]) && message.len() <= LONGEST
 }
 
-/// The kind of an event, if a line sends it.
-fn event_kind(event: u8) -> Option<Kind>
-    ensures { result ≡ event_kind event }
-{
-    match event {
-        0x01 => Some(Kind::Setup),
-        0x02 => Some(Kind::Alerting),
-        0x03 => Some(Kind::Answer),
-        0x04 => Some(Kind::Clear),
-        _ => None,
+/// What a line sends.
+#[derive(Clone, Copy)]
+enum Sent {
+    Setup,
+    Alerting,
+    Answer,
+    Clear,
+}
+
+impl TryFrom<u8> for Sent {
+    type Error = Refusal;
+
+    ghost try_from_gives = { λ n r. MatchResult r (λ s. event_kind n ≡ Some (kind_sent s)) (λ e. (event_kind n ≡ None) × (e ≡ refusal UnknownType 6)) };
+
+    fn try_from(event: u8) -> Result<Sent, Refusal> {
+        match event {
+            0x01 => Ok(Sent::Setup),
+            0x02 => Ok(Sent::Alerting),
+            0x03 => Ok(Sent::Answer),
+            0x04 => Ok(Sent::Clear),
+            _ => Err(System::Line.refuses(Reason::UnknownType, EVENT)),
+        }
     }
 }
 
@@ -70,7 +64,7 @@ fn digit_place(fault: DigitFault) -> usize
 {
     match fault {
         DigitFault::NotADigit(k) => HEAD + k,
-        _ => COUNT,
+        DigitFault::NoDigits | DigitFault::TooMany => COUNT,
     }
 }
 
@@ -79,6 +73,7 @@ fn setup(message: &[u8]) -> Result<Signal, Refusal>
     requires { 8 ≤ length message.now }
     ensures { signal_as message.now result ≡ setup_read message.now (dialled (drop 8 message.now)) }
 {
+    // By cases: a wrong digit has a place because these digits have, which a closure would not know.
     match Digits::read(&message[HEAD..]) {
         Ok(digits) => Ok(Signal::Setup(Setup {
             bearer: Bearer::audio(),
@@ -90,7 +85,7 @@ fn setup(message: &[u8]) -> Result<Signal, Refusal>
             isdn: false,
             parts: Parts::none(),
         })),
-        Err(fault) => Err(refuse(Reason::BadValue, digit_place(fault))),
+        Err(fault) => Err(System::Line.refuses(Reason::BadValue, digit_place(fault))),
     }
 }
 
@@ -100,22 +95,21 @@ fn other(message: &[u8], signal: Signal) -> Result<Signal, Refusal>
     ensures { signal_as message.now result ≡ (if nat_eq (slice_index message.now 7) 0 then heard_as message.now (kind_of signal) (contents_of signal) else Err (refusal BadValue 7)) }
 {
     if message[COUNT] != 0 {
-        return Err(refuse(Reason::BadValue, COUNT));
+        return Err(System::Line.refuses(Reason::BadValue, COUNT));
     }
     Ok(signal)
 }
 
 /// What the body of a message says.
-fn body(message: &[u8], kind: Kind) -> Result<Signal, Refusal>
-    requires long { 8 ≤ length message.now }
-    requires listed { event_kind (slice_index message.now 6) ≡ Some kind }
-    ensures { signal_as message.now result ≡ body_read message.now kind }
+fn body(message: &[u8], event: Sent) -> Result<Signal, Refusal>
+    requires { 8 ≤ length message.now }
+    ensures { signal_as message.now result ≡ body_read message.now (kind_sent event) }
 {
-    match kind {
-        Kind::Setup => setup(message),
-        Kind::Alerting => other(message, Signal::Alerting(None, false, Parts::none())),
-        Kind::Answer => other(message, Signal::Answer(None, false, Parts::none())),
-        _ => other(message, Signal::Clear(Cause::normal(), Parts::none())),
+    match event {
+        Sent::Setup => setup(message),
+        Sent::Alerting => other(message, Signal::Alerting(None, false, Parts::none())),
+        Sent::Answer => other(message, Signal::Answer(None, false, Parts::none())),
+        Sent::Clear => other(message, Signal::Clear(Cause::normal(), Parts::none())),
     }
 }
 
@@ -124,19 +118,16 @@ pub fn read(legs: usize, message: &[u8]) -> Result<Reading, Refusal>
     ensures { read_as result ≡ reads legs message.now }
 {
     if !has_head(message) {
-        return Err(refuse(Reason::Malformed, 0));
+        return Err(System::Line.refuses(Reason::Malformed, 0));
     }
-    let Some(kind) = event_kind(message[EVENT]) else {
-        return Err(refuse(Reason::UnknownType, EVENT));
+    let event = Sent::try_from(message[EVENT])?;
+    let Some(leg) = Leg::among(usize::from(message[LINE]), legs) else {
+        return Err(System::Line.refuses(Reason::NoSuchLeg, LINE));
     };
-    let line = message[LINE] as usize;
-    let Some(leg) = Leg::among(line, legs) else {
-        return Err(refuse(Reason::NoSuchLeg, LINE));
-    };
-    if message[COUNT] as usize != message.len() - HEAD {
-        return Err(refuse(Reason::Malformed, COUNT));
+    if usize::from(message[COUNT]) != message.len() - HEAD {
+        return Err(System::Line.refuses(Reason::Malformed, COUNT));
     }
-    let signal = body(message, kind)?;
+    let signal = body(message, event)?;
     Ok(Reading {
         leg,
         heard: message[EVENT],

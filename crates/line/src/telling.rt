@@ -1,10 +1,12 @@
 //! What becomes of a line's record, and what is written to a line.
 ghost use Rattle.std.specs.Prelude.{◌≡◌, ℕ, ◌≤◌, true, [], length, Some, None};
+ghost use Rattle.std.specs.Option.{option_map};
 ghost use Rattle.digits.specs.Dialling.{characters};
 ghost use Rattle.side.specs.Table.{heard_in, told_in, heard_to, told_to};
 ghost use Rattle.side.specs.Signals.{kind_of, contents_of};
 ghost use Rattle.side.specs.Steps.{row_fault, One, written};
 ghost use Rattle.side.specs.declared.kinds.System.TheVariants.{Line};
+ghost use Rattle.line.specs.Events.{told_octet};
 ghost use Rattle.line_meaning.specs.Lines.{kept, kept_of, told_event, told_octets, taken, told};
 
 use digits::Digits;
@@ -12,7 +14,7 @@ use side::contents::{Reading, Signal};
 use side::kinds::{Kind, Phase, Refusal, System};
 use side::leg::Leg;
 use side::records::{Dialled, LineRecord};
-use side::refusing::row_fault;
+use side::refusing::check_row;
 
 /// A number as a record keeps it.
 fn keep(digits: &Digits) -> Dialled
@@ -20,7 +22,7 @@ fn keep(digits: &Digits) -> Dialled
 {
     let mut octets = [0u8; 20];
     let count = digits.len();
-    octets[0..count].copy_from_slice(digits.as_octets());
+    octets[..count].copy_from_slice(digits.as_octets());
     Dialled { octets, count }
 }
 
@@ -43,37 +45,45 @@ pub fn take(
     ensures { One (row_fault Line (length reply.old) (heard_in (kind_of reading.now.signal) before.phase)) (taken reading.now.leg.number before reading.now.heard (kind_of reading.now.signal) (contents_of reading.now.signal)) [] reply.old reply.new result }
 {
     let kind = reading.signal.kind();
-    if let Some(refusal) = row_fault(System::Line, reply.len(), kind.heard_in(before.phase)) {
-        return Err(refusal);
-    }
+    check_row(System::Line, reply.len(), kind.heard_in(before.phase))?;
     let phase = kind.heard_to(Phase::Idle, before.phase);
     let dialled = dialled_after(&reading.signal, before.dialled);
     Ok((LineRecord { phase, dialled }, 0))
 }
 
-/// The event that a line is told by a kind, if any.
-fn told_event(kind: Kind) -> Option<u8>
-    ensures { result ≡ told_event kind }
+/// What a line is told.
+#[derive(Clone, Copy)]
+enum Told {
+    Setup = 0x11,
+    Alerting = 0x12,
+    Answer = 0x13,
+    Clear = 0x14,
+}
+
+/// The event by which a line is told a kind, if any.
+fn told_event(kind: Kind) -> Option<Told>
+    ensures { option_map told_octet result ≡ told_event kind }
 {
     match kind {
-        Kind::Setup => Some(0x11),
-        Kind::Alerting => Some(0x12),
-        Kind::Answer => Some(0x13),
-        Kind::Clear => Some(0x14),
+        Kind::Setup => Some(Told::Setup),
+        Kind::Alerting => Some(Told::Alerting),
+        Kind::Answer => Some(Told::Answer),
+        Kind::Clear => Some(Told::Clear),
         Kind::Complete | Kind::Progress | Kind::Quiet | Kind::Down => None,
     }
 }
 
 /// Writes an event from the front of a buffer; where there is none, nothing.
-fn write_event(leg: Leg, event: Option<u8>, out: &mut [u8]) -> usize
+fn write_event(leg: Leg, event: Option<Told>, out: &mut [u8]) -> usize
     requires { 256 ≤ length out.old }
-    ensures wrote { out.new ≡ written (told_octets leg.number event) out.old }
-    ensures long { result ≡ length (told_octets leg.number event) }
+    ensures wrote { out.new ≡ written (told_octets leg.number (option_map told_octet event)) out.old }
+    ensures long { result ≡ length (told_octets leg.number (option_map told_octet event)) }
 {
     match event {
         Some(event) => {
             let length = 8;
-            out[0..8].copy_from_slice(&[b'L', b'I', b'N', 0x00, 0x01, leg.octet(), event, 0x00]);
+            let octets = [b'L', b'I', b'N', 0x00, 0x01, leg.octet(), event as u8, 0x00];
+            out[..8].copy_from_slice(&octets);
             length
         }
         None => 0,
@@ -90,13 +100,11 @@ pub fn tell(
     ensures { One (row_fault Line (length message.old) (told_in (kind_of signal.now) true before.phase)) (told leg.number before (kind_of signal.now) (contents_of signal.now)) (told_octets leg.number (told_event (kind_of signal.now))) message.old message.new result }
 {
     let kind = signal.kind();
-    if let Some(refusal) = row_fault(
+    check_row(
         System::Line,
         message.len(),
         kind.told_in(true, before.phase),
-    ) {
-        return Err(refusal);
-    }
+    )?;
     let n = write_event(leg, told_event(kind), message);
     Ok((
         LineRecord {

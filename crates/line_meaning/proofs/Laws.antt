@@ -1,6 +1,6 @@
 -- The laws of the line side. Assumes nothing.
 use Rattle.std.proofs.Common.{◌≡◌, ℕ, ◌-◌, ◌<◌, ◌≤◌, Bool, true, false, cond, ◌&&◌, eqb, ltb, ◌↔◌, List, [], ◌∷◌, length, get_or, drop, Some, None, Ok, Err, Option, Result, sym, refl, ap, ◌∙◌, subst, inl, arith, lit<, lit≤}
-use Rattle.std.proofs.lemmas.Bool.{ltb-true, ltb-false, eqb-false, and_parts}
+use Rattle.std.proofs.lemmas.Bool.{false≢true, ltb-true, ltb-false, eqb-false, and_parts}
 use Rattle.values.specs.declared.types.NumberType.TheVariants.{Unknown}
 use Rattle.digits.specs.declared.types.DigitFault.{DigitFault}
 use Rattle.digits.specs.declared.types.DigitFault.TheVariants.{NoDigits, TooMany, NotADigit}
@@ -14,9 +14,10 @@ use Rattle.side.specs.declared.kinds.System.TheVariants.{Line}
 use Rattle.side.specs.declared.kinds.Reason.TheVariants.{Malformed, UnknownType, NoSuchLeg, BadValue}
 use Rattle.side.specs.declared.kinds.Refusal.{Refusal}
 use Rattle.side.specs.Table.{heard_in, heard_to}
-use Rattle.side.specs.Signals.{Contents, Heard, empty}
+use Rattle.side.specs.Signals.{Heard, empty}
 use Rattle.side.specs.Contents.{Part}
-use Rattle.side.specs.Meaning.{Meaning, Within, PartsWithin, HeardTo, reason_number, keep}
+use Rattle.side.specs.Meaning.{Meaning, Within, HeardTo, reason_number, keep}
+use Rattle.side.proofs.Limited.{none_within, plain}
 use Rattle.side.specs.declared.records.LineRecord.{LineRecord}
 use Rattle.line_meaning.specs.Lines as line
 use Rattle.line_meaning.specs.Lines.{headed, event_kind, setup_of, others_of, heard_as, setup_read, other_read, body_read, event_read, told_event, told_octets, far_kind}
@@ -31,12 +32,9 @@ number text d e =
     only : (a b : Bool) (o : Option ℕ) (text d : List ℕ) → cond a (Err NoDigits) (cond b (Err TooMany) (elim o [ None ↦ Ok text | Some k ↦ Err (NotADigit k) ])) ≡ Ok d → (text ≡ d) × (a ≡ false) × (b ≡ false) × (o ≡ None)
     only a b o text d h = (grind arith, grind arith, grind arith, grind arith)
 
-pub no_parts : PartsWithin []
-no_parts = record { calling = []; called = []; low = []; high = []; user = []; are = refl; total = lit≤ tt; few = lit≤ tt }
-
 pub setup_within : (d : List ℕ) → Number d → Within Setup (setup_of d)
 setup_within d h = record {
-  parts = no_parts;
+  parts = none_within;
   bare = λ _. refl;
   bearer = λ _. (lit≤ tt, lit≤ tt);
   number = λ _. (Unknown, (d, refl, h));
@@ -44,32 +42,22 @@ setup_within d h = record {
   cause = λ e. absurd (let z : ◌≡◌ {A = ℕ} 0 1 = cc in omega arith);
 }
 
-pub plain : (k : Kind) (c : Contents) → c.parts ≡ [] → (k ≡ Setup → ⊥) → (k ≡ Progress → ⊥) → (k ≡ Clear → ⊥) → Within k c
-plain k c p s g t = record {
-  parts = subst PartsWithin (sym p) no_parts;
-  bare = λ _. p;
-  bearer = λ e. absurd (s e);
-  number = λ e. absurd (s e);
-  noted = λ e. absurd (g e);
-  cause = λ e. absurd (t e);
-}
-
 pub plain_within : (k : Kind) → (k ≡ Setup → ⊥) → (k ≡ Progress → ⊥) → Within k (others_of k)
 plain_within Setup a b = absurd (a refl)
-plain_within Complete a b = plain Complete empty refl (λ e. grind arith) (λ e. grind arith) (λ e. grind arith)
+plain_within Complete a b = plain Complete empty none_within (λ _. refl) (λ e. grind arith) (λ e. grind arith) (λ e. grind arith)
 plain_within Progress a b = absurd (b refl)
-plain_within Alerting a b = plain Alerting (others_of Alerting) refl (λ e. grind arith) (λ e. grind arith) (λ e. grind arith)
-plain_within Answer a b = plain Answer (others_of Answer) refl (λ e. grind arith) (λ e. grind arith) (λ e. grind arith)
-plain_within Quiet a b = plain Quiet empty refl (λ e. grind arith) (λ e. grind arith) (λ e. grind arith)
+plain_within Alerting a b = plain Alerting (others_of Alerting) none_within (λ _. refl) (λ e. grind arith) (λ e. grind arith) (λ e. grind arith)
+plain_within Answer a b = plain Answer (others_of Answer) none_within (λ _. refl) (λ e. grind arith) (λ e. grind arith) (λ e. grind arith)
+plain_within Quiet a b = plain Quiet empty none_within (λ _. refl) (λ e. grind arith) (λ e. grind arith) (λ e. grind arith)
 plain_within Clear a b = record {
-  parts = no_parts;
+  parts = none_within;
   bare = λ _. refl;
   bearer = λ e. absurd (grind arith);
   number = λ e. absurd (grind arith);
   noted = λ e. absurd (grind arith);
   cause = λ _. (0, (16, refl, lit< tt, lit< tt));
 }
-plain_within Down a b = plain Down empty refl (λ e. grind arith) (λ e. grind arith) (λ e. grind arith)
+plain_within Down a b = plain Down empty none_within (λ _. refl) (λ e. grind arith) (λ e. grind arith) (λ e. grind arith)
 
 -- the refusals that a reading may give
 abbrev pub Between : Refusal → Type 0
@@ -188,6 +176,10 @@ reads_clear Quiet l h = absurd (h refl)
 reads_clear Clear l h = ((λ _. refl), (λ _. refl))
 reads_clear Down l h = absurd (h refl)
 
+-- a Clear is always told
+pub clear_told : (l : ℕ) → told_octets l (told_event Clear) ≡ [] → ⊥
+clear_told l e = grind arith
+
 pub keep_none : (ps : List Part) → keep (λ q. false) ps ≡ []
 keep_none [] = refl
 keep_none (p ∷ ps) = keep_none ps
@@ -220,6 +212,6 @@ meaning_of_lines = record {
   tell_short = λ l p k c w. short l (told_event k);
   far_clear = λ l p k c w h s. reads_clear k l s;
   far_parts = λ l p k c w h s. sym (keep_none c.parts);
-  clear_said = λ l p c h e. absurd (grind arith);
-  part_said = λ l p k c t e f h z. absurd (grind arith);
+  clear_said = λ l p c h e. clear_told l e;
+  part_said = λ l p k c t e f h z. false≢true e;
 }

@@ -30,10 +30,7 @@ fn refusal(reason: Reason) -> Refusal {
 }
 
 fn place(number: usize) -> Result<Leg, Fail> {
-    match Leg::new(number) {
-        Some(leg) => Ok(leg),
-        None => Err(Fail::new("no leg has this number")),
-    }
+    Ok(Leg::new(number).ok_or("no leg has this number")?)
 }
 
 fn setup_signal(number: &[u8]) -> Result<Signal, Fail> {
@@ -54,7 +51,7 @@ fn setup_signal(number: &[u8]) -> Result<Signal, Fail> {
 fn stands(rt: &impl Abort, buf: &[u8], written: &[u8]) {
     let n = written.len();
     assert!(rt; n <= buf.len());
-    assert_eq!(rt; &buf[0..n], written);
+    assert_eq!(rt; &buf[..n], written);
     for octet in &buf[n..] {
         assert_eq!(rt; *octet, FILL);
     }
@@ -243,7 +240,7 @@ fn a_short_buffer(rt: HostRuntime) -> Result<(), Fail> {
 fn keeps(rt: &impl Abort, dialled: Option<Dialled>, number: &[u8]) -> Result<(), Fail> {
     let kept = dialled.ok_or("no number")?;
     assert!(rt; kept.count <= 20);
-    assert_eq!(rt; &kept.octets[0..kept.count], number);
+    assert_eq!(rt; &kept.octets[..kept.count], number);
     for octet in &kept.octets[kept.count..] {
         assert_eq!(rt; *octet, 0);
     }

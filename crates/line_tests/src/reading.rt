@@ -39,11 +39,7 @@ fn reads(
             assert_eq!(rt; setup.number.digits.as_octets(), number);
             Ok(())
         }
-        Signal::Alerting(progress, isdn, _) => {
-            assert!(rt; !isdn && progress.is_none());
-            Ok(())
-        },
-        Signal::Answer(progress, isdn, _) => {
+        Signal::Alerting(progress, isdn, _) | Signal::Answer(progress, isdn, _) => {
             assert!(rt; !isdn && progress.is_none());
             Ok(())
         },
@@ -133,10 +129,10 @@ const SETUP: [u8; 11] = [b'L', b'I', b'N', 0, 1, 1, 1, 3, b'1', b'2', b'3'];
 #[test]
 fn a_setup_cut_at_every_octet(rt: HostRuntime) -> Result<(), Fail> {
     for n in 0..8 {
-        refused(&rt, &SETUP[0..n], 2, 0)?;
+        refused(&rt, &SETUP[..n], 2, 0)?;
     }
     for n in 8..11 {
-        refused(&rt, &SETUP[0..n], 2, 7)?;
+        refused(&rt, &SETUP[..n], 2, 7)?;
     }
     reads(&rt, &SETUP, 1, Kind::Setup, b"123")
 }

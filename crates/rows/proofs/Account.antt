@@ -1,7 +1,8 @@
 -- Every call is accounted for, and every clearing. Assumes the laws of the two sides.
-use Rattle.std.proofs.Common.{◌≡◌, ℕ, zero, suc, ◌+◌, Bool, true, false, cond, ◌||◌, leb, ◌↔◌, List, [], ◌∷◌, ◌++◌, length, take, drop, Some, None, sym, refl, ap, ◌∙◌, subst, ap₂, arith, eqb→eq}
+use Rattle.std.proofs.Common.{◌≡◌, ℕ, zero, suc, ◌+◌, Bool, true, false, cond, ◌||◌, leb, ◌↔◌, List, [], ◌∷◌, ◌++◌, length, take, drop, Some, None, sym, refl, ap, ◌∙◌, subst, ap₂, arith}
 use mathlib.Core.List.{Memᴰ}
 use lib.Seq.{take-append_seam}
+use Rattle.std.proofs.lemmas.Bool.{eqb-true}
 use Rattle.side.specs.declared.kinds.Kind.{Kind}
 use Rattle.side.specs.declared.kinds.Kind.TheVariants.{Setup, Clear}
 use Rattle.side.specs.Table.{heard_in, told_in}
@@ -15,7 +16,6 @@ use Rattle.rows.specs.Sides.{Side}
 use Rattle.rows.specs.Exchange.{State, fresh, Member, hear, cut, Outcome, part, Effect, does, is_setup, Way, joining, silent, passing, parting, way, has_user_user, passed, cut_contents, both_way, refusal, outcome_of, reply_of, onward_of, out, run}
 use Rattle.rows.specs.Calls.{Call, leg_on, has, Event, cut_off, plain, kind_event, setups, standing, ended, event, events}
 use Rattle.rows.specs.Accounting.{is_clear, partnered, pairs, clearing_to, due_clear, due_cut, due, clearings, Accounting}
-use Rattle.rows.proofs.Basics.{T_of}
 use Rattle.rows.proofs.Readings.{read_within}
 use Rattle.rows.proofs.Table.{pass_tells, silent_is, parting_is, joining_is, passing_not_clear}
 use Rattle.rows.proofs.Steps.{View, turned, lone, begun, linked, severed, view}
@@ -157,7 +157,7 @@ module _ (M : Which → Side) (s : State) (g : Sound M s) (cs : List Call) (k : 
   partners_are : (w : Which) (l y : ℕ) → ((s (leg w l)).partner ≡ Some y) ↔ ((d : Call) × Memᴰ d cs × (leg_on w d ≡ l) × (leg_on (other w) d ≡ y))
   partners_are w l y = (
     (λ e. let r = count_some (has (leg w l)) cs (k.counts (leg w l) ∙ ap partnered e) in
-        (r.0, r.1, sym (eqb→eq l (leg_on w r.0) (T_of r.2)), far_end s r.0 w l y (k.joins r.0 r.1) r.2 e)),
+        (r.0, r.1, sym (eqb-true l (leg_on w r.0) r.2), far_end s r.0 w l y (k.joins r.0 r.1) r.2 e)),
     (λ r. ap (λ (n : ℕ). (s (leg w n)).partner) (sym r.2) ∙ (k.joins r.0 r.1).partnered_with w ∙ ap Some r.3),
   )
 

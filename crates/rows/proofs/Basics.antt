@@ -1,23 +1,10 @@
 -- Legs, updates of a state, and lists. Assumes nothing.
-use Rattle.std.proofs.Common.{◌≡◌, ℕ, Bool, true, false, cond, ◌&&◌, ◌||◌, T, eqb, ◌⊎◌, List, [], ◌∷◌, ◌++◌, length, Some, None, Option, sym, refl, ap, ◌∙◌, subst, ap₂, inl, inr, true≢false, arith, eqb→eq}
+use Rattle.std.proofs.Common.{◌≡◌, ℕ, Bool, true, false, cond, eqb, List, [], ◌∷◌, ◌++◌, length, Some, None, Option, refl, ap, ap₂, arith}
 use mathlib.Core.Bool.{false≢true}
-use lib.Dec.{eqb_refl}
+use Rattle.std.proofs.lemmas.Bool.{and_parts, eq-eqb, eqb-true}
 use Rattle.rows.specs.declared.kinds.Which.{Which}
 use Rattle.rows.specs.declared.kinds.Which.TheVariants.{First, Second}
 use Rattle.rows.specs.Legs.{other, Leg, leg, same_leg, same_which, select}
-use Rattle.rows.specs.Exchange.{LegState, State, update}
-
-pub T_of : {b : Bool} → b ≡ true → T b
-T_of e = subst T (sym e) tt
-
-pub of_t : (b : Bool) → T b → b ≡ true
-of_t true t = refl
-of_t false t = absurd t
-
--- a Boolean is one of the two
-pub either : (b : Bool) → (b ≡ true) ⊎ (b ≡ false)
-either true = inl refl
-either false = inr refl
 
 pub some_inj : {A : Type 0} {a b : A} → ◌≡◌ {A = Option A} (Some a) (Some b) → a ≡ b
 some_inj e = cc
@@ -34,7 +21,7 @@ same_which_refl First = refl
 same_which_refl Second = refl
 
 pub same_refl : (x : Leg) → same_leg x x ≡ true
-same_refl (leg w l) = rw same_which_refl (of_t (eqb l l) (eqb_refl l))
+same_refl (leg w l) = rw same_which_refl (eq-eqb l l refl)
 
 same_which_eq : (w v : Which) → same_which w v ≡ true → w ≡ v
 same_which_eq First First e = refl
@@ -42,40 +29,10 @@ same_which_eq First Second e = absurd (false≢true e)
 same_which_eq Second First e = absurd (false≢true e)
 same_which_eq Second Second e = refl
 
-pub and_left : (a b : Bool) → (a && b) ≡ true → a ≡ true
-and_left true b e = refl
-and_left false b e = e
-
-pub and_right : (a b : Bool) → (a && b) ≡ true → b ≡ true
-and_right true b e = e
-and_right false b e = absurd (false≢true e)
-
-pub or_left : (a b : Bool) → (a || b) ≡ false → a ≡ false
-or_left true b e = e
-or_left false b e = refl
-
-pub or_right : (a b : Bool) → (a || b) ≡ false → b ≡ false
-or_right true b e = absurd (true≢false e)
-or_right false b e = e
-
 pub same_eq : (x y : Leg) → same_leg x y ≡ true → x ≡ y
 same_eq (leg w l) (leg v k) e =
-    ap₂ leg (same_which_eq w v (and_left (same_which w v) (eqb l k) e)) (eqb→eq l k (T_of (and_right (same_which w v) (eqb l k) e)))
-
--- an update at its own leg, and at another
-pub update_same : (s : State) (x : Leg) (v : LegState) → update s x v x ≡ v
-update_same s x v = rw (same_refl x)
-
-pub update_other : (s : State) (x z : Leg) (v : LegState) → same_leg z x ≡ false → update s x v z ≡ s z
-update_other s x z v e = rw e
-
--- a leg of the set is not one out of it
-pub split_legs : (L : Leg → Bool) (x z : Leg) → L z ≡ true → L x ≡ false → same_leg z x ≡ false
-split_legs L x z hz hx = go (same_leg z x) refl
-  where
-    go : (b : Bool) → same_leg z x ≡ b → b ≡ false
-    go true e = absurd (true≢false (sym hz ∙ ap L (same_eq z x e) ∙ hx))
-    go false e = refl
+    let h = and_parts (same_which w v) (eqb l k) e in
+    ap₂ leg (same_which_eq w v h.0) (eqb-true l k h.1)
 
 pub select_append : {A : Type 0} (f : A → Bool) (xs ys : List A) → select f (xs ++ ys) ≡ select f xs ++ select f ys
 select_append f [] ys = refl

@@ -1,11 +1,11 @@
 -- Counts over lists of calls, and the standing calls of a history taken event by event. Assumes nothing.
-use Rattle.std.proofs.Common.{◌≡◌, ℕ, zero, suc, ◌+◌, ◌<◌, ◌≤◌, Bool, true, false, cond, not, ◌&&◌, eqb, ◌⊎◌, List, [], ◌∷◌, ◌++◌, length, sym, refl, ap, ◌∙◌, inl, inr, true≢false, append_assoc, append-nil, arith, eqb→eq}
+use Rattle.std.proofs.Common.{◌≡◌, ℕ, zero, suc, ◌+◌, ◌<◌, ◌≤◌, Bool, true, false, cond, not, ◌&&◌, eqb, ◌⊎◌, List, [], ◌∷◌, ◌++◌, length, sym, refl, ap, ◌∙◌, inl, inr, true≢false, append_assoc, append-nil, arith}
 use mathlib.Core.List.{Memᴰ}
-use lib.Dec.{eqb_refl}
+use Rattle.std.proofs.lemmas.Bool.{eq-eqb, eqb-true}
 use Rattle.rows.specs.declared.kinds.Which.TheVariants.{First}
 use Rattle.rows.specs.Legs.{leg, select}
 use Rattle.rows.specs.Calls.{Call, has, Event, begins, clears, cut_off, plain, outlives, setups, standing, ended}
-use Rattle.rows.proofs.Basics.{select_append, T_of, of_t}
+use Rattle.rows.proofs.Basics.{select_append}
 
 abbrev pub count : {A : Type 0} → (A → Bool) → List A → ℕ
 count f [] = 0
@@ -128,8 +128,8 @@ eqb_cases : (n k : ℕ) → ((n ≡ k) × (eqb n k ≡ true)) ⊎ ((n ≡ k → 
 eqb_cases n k = go (eqb n k) refl
   where
     go : (b : Bool) → eqb n k ≡ b → ((n ≡ k) × (eqb n k ≡ true)) ⊎ ((n ≡ k → ⊥) × (eqb n k ≡ false))
-    go true e = inl (eqb→eq n k (T_of e), e)
-    go false e = inr ((λ h. true≢false (sym (of_t (eqb n n) (eqb_refl n)) ∙ ap (eqb n) h ∙ e)), e)
+    go true e = inl (eqb-true n k e, e)
+    go false e = inr ((λ h. true≢false (sym (eq-eqb n n refl) ∙ ap (eqb n) h ∙ e)), e)
 
 hits_none : (k n : ℕ) → n ≤ k → hits k n ≡ 0
 hits_none k zero h = refl

@@ -1,5 +1,6 @@
 -- A cut tells both legs of a standing call, and parts them. Assumes the laws of the two sides.
-use Rattle.std.proofs.Common.{◌≡◌, ℕ, true, leb, List, [], length, Some, sym, refl, ap, ◌∙◌, subst, eqb→eq}
+use Rattle.std.proofs.Common.{◌≡◌, ℕ, true, leb, List, [], length, Some, sym, refl, ap, ◌∙◌, subst}
+use Rattle.std.proofs.lemmas.Bool.{eqb-true}
 use Rattle.side.specs.declared.kinds.Kind.TheVariants.{Clear}
 use Rattle.side.specs.declared.kinds.Phase.{Phase}
 use Rattle.side.specs.Table.{told_in}
@@ -12,7 +13,6 @@ use Rattle.rows.specs.Calls.{Call, leg_on, has, standing, events}
 use Rattle.rows.specs.Accounting.{partnered}
 use Rattle.rows.specs.Carriage.{Told}
 use Rattle.rows.specs.Cutting.{Severed, Cutting}
-use Rattle.rows.proofs.Basics.{T_of}
 use Rattle.rows.proofs.Steps.{View, turned, severed, view}
 use Rattle.rows.proofs.Sound.{Sound, at_x, at_y, back_partner, clear_row, row_sound}
 use Rattle.rows.proofs.Counts.{count_some}
@@ -60,7 +60,7 @@ module _ (M : Which → Side) (row : List Member) (w : Which) (l v : ℕ) (a b :
         its_leg = refl;
         call = r.0;
         stood = r.1;
-        leg_is_on = sym (eqb→eq l (leg_on w r.0) (T_of r.2));
+        leg_is_on = sym (eqb-true l (leg_on w r.0) r.2);
         partner_on = ap Some (sym q);
         said = (refl, refl);
         near = (_, cut_told (M w) l (s (leg w l)).phase v d (clear_row M s g w l y e ((M w).callable l)), refl, ap (λ (u : Outcome). u.reply) t');

@@ -1,6 +1,7 @@
 -- What always holds of an exchange's state: partners are mutual and in phases that go together, other legs are at rest.
 -- Assumes where the two sides' messages lead.
-use Rattle.std.proofs.Common.{◌≡◌, ℕ, ◌<◌, Bool, true, false, ◌⊎◌, List, [], ◌∷◌, Some, None, Option, sym, refl, ap, ◌∙◌, subst, inl, inr, arith, ltb→lt}
+use Rattle.std.proofs.Common.{◌≡◌, ℕ, ◌<◌, Bool, true, false, ◌⊎◌, List, [], ◌∷◌, Some, None, Option, sym, refl, ap, ◌∙◌, subst, inl, inr, arith}
+use Rattle.std.proofs.lemmas.Bool.{and_parts, ltb-true}
 use Rattle.side.specs.declared.kinds.Kind.{Kind}
 use Rattle.side.specs.declared.kinds.Kind.TheVariants.{Setup, Clear}
 use Rattle.side.specs.declared.kinds.Phase.{Phase}
@@ -12,7 +13,7 @@ use Rattle.rows.specs.declared.kinds.Which.{Which}
 use Rattle.rows.specs.Legs.{other, Leg, leg, across, same_leg}
 use Rattle.rows.specs.Sides.{Side}
 use Rattle.rows.specs.Exchange.{LegState, State, fresh, update, Member, stay, is_setup, Way, joining, silent, passing, parting, way, has_user_user, passed, cut_contents, both_way, bonded, after, next, run}
-use Rattle.rows.proofs.Basics.{T_of, none_some, other_other, same_eq, same_refl, and_right}
+use Rattle.rows.proofs.Basics.{none_some, other_other, same_eq, same_refl}
 use Rattle.rows.proofs.Readings.{read_leg}
 use Rattle.rows.proofs.Table.{paired, rests, paired_back, paired_busy, busy_not_idle, pass_tells, pass_pairs, rests_clear, rest_stays, silent_is, parting_is, joining_is}
 use Rattle.rows.proofs.Steps.{View, turned, lone, begun, linked, severed, view}
@@ -183,7 +184,7 @@ module _ (M : Which → Side) where
         (one_sound w l _ e (rest_stays k (s (leg w l)).phase _ u (g.rest (leg w l) e) h ((M w).take_moves l (s (leg w l)).phase type k c h)))
     step_sound _ (begun w o r a b l type c f h v d x i n t) =
         let ex = idle_single (leg w l) _ refl h in
-        let ey = idle_single (leg (other w) r) _ refl (and_right ((M (other w)).callable r) _ d) in
+        let ey = idle_single (leg (other w) r) _ refl (and_parts ((M (other w)).callable r) _ d).1 in
         subst Sound (sym (n ∙ ap (after s w l (Some r)) i))
         (two_linked s w l r _ _ g (free_single w l r ex ey) (record {
           mine = refl;
@@ -191,7 +192,7 @@ module _ (M : Which → Side) where
           phases = rw (((M w).take_moves l (s (leg w l)).phase type Setup c h).0, (M (other w)).tell_moves r (s (leg (other w) r)).phase Setup (passed (has_user_user c) c) d);
           notes = refl;
           near_in = read_leg (M w) o l type Setup c f;
-          far_in = ltb→lt r (M (other w)).legs (T_of v);
+          far_in = ltb-true r (M (other w)).legs v;
         }))
     step_sound _ (linked w o r a b l type k c y f h u e x i n t) =
         subst Sound (sym (n ∙ ap (after s w l (Some y)) i)) (linked_sound w l type k c y h u e (way k) refl)

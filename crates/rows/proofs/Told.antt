@@ -1,5 +1,6 @@
 -- What told messages say at their far end, and that what is told is within its limits. Assumes the laws of a side.
-use Rattle.std.proofs.Common.{◌≡◌, ℕ, ◌+◌, ◌≤◌, Bool, true, false, cond, not, ◌||◌, eqb, leb, ◌↔◌, List, [], ◌∷◌, ◌++◌, length, sym, refl, ap, ◌∙◌, subst, ap₂, arith, leb→le}
+use Rattle.std.proofs.Common.{◌≡◌, ℕ, ◌+◌, ◌≤◌, Bool, true, false, cond, not, ◌||◌, eqb, leb, ◌↔◌, List, [], ◌∷◌, ◌++◌, length, sym, refl, ap, ◌∙◌, subst, ap₂, arith}
+use Rattle.std.proofs.lemmas.Bool.{leb-true}
 use Rattle.side.specs.declared.kinds.Kind.{Kind}
 use Rattle.side.specs.declared.kinds.Kind.TheVariants.{Clear}
 use Rattle.side.specs.declared.kinds.Phase.{Phase}
@@ -11,7 +12,6 @@ use Rattle.side.specs.Meaning.{PartsWithin, Within, keep}
 use Rattle.rows.specs.Sides.{Side}
 use Rattle.rows.specs.Exchange.{is_user_user, passed, cut_contents}
 use Rattle.rows.specs.Accounting.{is_clear, clearing_in}
-use Rattle.rows.proofs.Basics.{T_of}
 use Rattle.rows.proofs.Track.{clear_is}
 
 keep_append : (f : Part → Bool) (xs ys : List Part) → keep f (xs ++ ys) ≡ keep f xs ++ keep f ys
@@ -93,7 +93,7 @@ cut_within v e = record {
   bearer = λ i. absurd (let z : ◌≡◌ {A = ℕ} 0 1 = cc in omega arith);
   number = λ i. absurd (let z : ◌≡◌ {A = ℕ} 0 1 = cc in omega arith);
   noted = λ i. absurd (let z : ◌≡◌ {A = ℕ} 0 1 = cc in omega arith);
-  cause = λ _. (2, (v, refl, omega arith, (let h = leb→le v 127 (T_of e) in omega arith)));
+  cause = λ _. (2, (v, refl, omega arith, (let h = leb-true v 127 e in omega arith)));
 }
 
 same_clear : (j k : Kind) → (j ≡ Clear) ↔ (k ≡ Clear) → is_clear j ≡ is_clear k

@@ -1,8 +1,9 @@
 -- The state and the calls that stand by the history go together. Assumes a sound state.
-use Rattle.std.proofs.Common.{◌≡◌, ℕ, ◌+◌, Bool, true, false, cond, not, eqb, ◌⊎◌, List, [], ◌∷◌, ◌++◌, Some, None, Option, sym, refl, ap, ◌∙◌, subst, ap₂, subst₂, inl, inr, true≢false, arith, eqb→eq}
+use Rattle.std.proofs.Common.{◌≡◌, ℕ, ◌+◌, Bool, true, false, cond, not, ◌⊎◌, List, [], ◌∷◌, ◌++◌, Some, None, Option, sym, refl, ap, ◌∙◌, subst, ap₂, subst₂, inl, inr, true≢false, arith}
 use mathlib.Core.List.Memᴰ
 use mathlib.Core.List.{Memᴰ}
 use lib.Dec.{eqb_refl}
+use Rattle.std.proofs.lemmas.Bool.{and_parts, eq-eqb, eqb-true}
 use Rattle.side.specs.declared.kinds.Kind.{Kind}
 use Rattle.side.specs.declared.kinds.Kind.TheVariants.{Setup, Clear}
 use Rattle.side.specs.declared.kinds.Phase.{Phase}
@@ -14,7 +15,7 @@ use Rattle.rows.specs.Sides.{Side, Reading, heard, reading}
 use Rattle.rows.specs.Exchange.{LegState, State, fresh, update, Member, hear, cut, Outcome, stay, Effect, refuses, does, is_setup, Way, joining, silent, passing, parting, way, has_user_user, both_way, bonded, after, refusal, outcome_of, reply_of, onward_of, next, out, run}
 use Rattle.rows.specs.Calls.{Call, call, leg_on, has, Event, cut_off, plain, kind_event, read_event, accepted, standing, event, events}
 use Rattle.rows.specs.Accounting.{is_clear, partnered}
-use Rattle.rows.proofs.Basics.{T_of, of_t, some_inj, none_some, other_other, same_eq, same_refl, and_right}
+use Rattle.rows.proofs.Basics.{some_inj, none_some, other_other, same_eq, same_refl}
 use Rattle.rows.proofs.Table.{silent_is, parting_is, joining_is, passing_not_clear}
 use Rattle.rows.proofs.Steps.{View, turned, lone, begun, linked, severed, view}
 use Rattle.rows.proofs.Sound.{Sound, two_or_other, S, at_x, at_y, at_z, idle_single, back_partner, next_sound, fresh_sound}
@@ -28,10 +29,10 @@ abbrev pub which_of : Leg → Which
 which_of (leg w l) = w
 
 pub has_end : (z : Leg) (d : Call) → has z d ≡ true → z ≡ end_of d (which_of z)
-has_end (leg w l) d e = ap (leg w) (eqb→eq l (leg_on w d) (T_of e))
+has_end (leg w l) d e = ap (leg w) (eqb-true l (leg_on w d) e)
 
 pub has_its_end : (d : Call) (w : Which) → has (end_of d w) d ≡ true
-has_its_end d w = of_t (eqb (leg_on w d) (leg_on w d)) (eqb_refl (leg_on w d))
+has_its_end d w = eq-eqb (leg_on w d) (leg_on w d) refl
 
 pub which_cases : (w v : Which) → (v ≡ w) ⊎ (v ≡ other w)
 which_cases First First = inl refl
@@ -273,7 +274,7 @@ module _ (M : Which → Side) (s : State) (g : Sound M s) (cs : List Call) (k : 
       subst₂ Goes (sym (n ∙ ap (after s w l None) i)) (sym (event_heard M w o r a b l type h c None x _ f t (subst Does (sym i) tt))) (lone_track w l r h c _ u e (is_clear h) refl)
   step_track _ (begun w o r a b l type c f h v d x i n t) =
       let ex = idle_single M s g (leg w l) _ refl h in
-      let ey = idle_single M s g (leg (other w) r) _ refl (and_right ((M (other w)).callable r) _ d) in
+      let ey = idle_single M s g (leg (other w) r) _ refl (and_parts ((M (other w)).callable r) _ d).1 in
       subst₂ Goes (sym (n ∙ ap (after s w l (Some r)) i)) (sym (event_heard M w o r a b l type Setup c (Some r) x _ f t (subst Does (sym i) tt)))
       (track_join M s w l r _ _ c ex ey refl refl refl refl cs k)
   step_track _ (linked w o r a b l type h c y f row u e x i n t) =

@@ -18,7 +18,7 @@ clipped : (n r : ℕ) → r ≡ cond (ltb 200 n) 201 (cost n) → r ≤ cost n
 clipped n r e = grind (arith, nat_tests)
 
 pub over : (a b c d e p q r s t : ℕ) → p ≡ cond (ltb 200 a) 201 (cost a) → q ≡ cond (ltb 200 b) 201 (cost b) → r ≡ cond (ltb 200 c) 201 (cost c) → s ≡ cond (ltb 200 d) 201 (cost d) → t ≡ cond (ltb 200 e) 201 (cost e) →
-    200 < p + q + r + s + t → Some TotalOver ≡ parts_fault a b c d e
+    200 < p + q + r + s + t → parts_fault a b c d e ≡ Some TotalOver
 over a b c d e p q r s t hp hq hr hs ht h =
     let i = clipped a p hp in
     let j = clipped b q hq in
@@ -26,7 +26,7 @@ over a b c d e p q r s t hp hq hr hs ht h =
     let l = clipped d s hs in
     let m = clipped e t ht in
     let n : 200 < cost a + cost b + cost c + cost d + cost e = omega arith in
-    sym (cond-true _ _ _ (lt-ltb 200 (cost a + cost b + cost c + cost d + cost e) n))
+    cond-true _ _ _ (lt-ltb 200 (cost a + cost b + cost c + cost d + cost e) n)
 
 -- a piece out of octets that begin with others laid one behind another
 pub piece : (xs p q r : List ℕ) (n s k : ℕ) → take n xs ≡ p ++ (q ++ r) → s ≡ length p → k ≡ length q → s + k ≤ n → cut s k xs ≡ q
@@ -37,34 +37,20 @@ piece xs p q r n s k e hs hk h =
     ∙ ap (take k) (drop_at p (q ++ r) s (sym hs))
     ∙ take_at q r k (sym hk)
 
--- five contents laid one behind another
-module _ (A B C D E : List ℕ) (o₀ o₁ o₂ o₃ o₄ o₅ : List ℕ) (a b c d e : ℕ)
-    (p : Adds A 0 o₀ a o₁) (q : Adds B a o₁ b o₂) (r : Adds C b o₂ c o₃) (s : Adds D c o₃ d o₄) (t : Adds E d o₄ e o₅) where
-  all : take e o₅ ≡ A ++ (B ++ (C ++ (D ++ E)))
+-- five contents laid one behind another, each found again by the lengths of those before it
+module _ (A B C D E : List ℕ) (o₀ o₁ o₂ o₃ o₄ o₅ : List ℕ) (i j k l m : ℕ)
+    (p : Adds A 0 o₀ i o₁) (q : Adds B i o₁ j o₂) (r : Adds C j o₂ k o₃) (s : Adds D k o₃ l o₄) (t : Adds E l o₄ m o₅)
+    (a b c d e : ℕ) (x : a ≡ length A) (y : b ≡ length B) (z : c ≡ length C) (v : d ≡ length D) (w : e ≡ length E) where
+  all : take m o₅ ≡ A ++ (B ++ (C ++ (D ++ E)))
   all = (then p refl (then q refl (then r refl (then s refl t)))).front
 
-  pub a_is : a ≡ length A
-  a_is = omega (arith, p.count)
-
-  pub b_is : b - a ≡ length B
-  b_is = omega (arith, q.count)
-
-  pub c_is : c - b ≡ length C
-  c_is = omega (arith, r.count)
-
-  pub d_is : d - c ≡ length D
-  d_is = omega (arith, s.count)
-
-  pub e_is : e - d ≡ length E
-  e_is = omega (arith, t.count)
-
-  ab : take e o₅ ≡ (A ++ B) ++ (C ++ (D ++ E))
+  ab : take m o₅ ≡ (A ++ B) ++ (C ++ (D ++ E))
   ab = all ∙ sym (append_assoc A B (C ++ (D ++ E)))
 
-  abc : take e o₅ ≡ ((A ++ B) ++ C) ++ (D ++ E)
+  abc : take m o₅ ≡ ((A ++ B) ++ C) ++ (D ++ E)
   abc = ab ∙ sym (append_assoc (A ++ B) C (D ++ E))
 
-  abcd : take e o₅ ≡ (((A ++ B) ++ C) ++ D) ++ (E ++ [])
+  abcd : take m o₅ ≡ (((A ++ B) ++ C) ++ D) ++ (E ++ [])
   abcd = abc ∙ sym (append_assoc ((A ++ B) ++ C) D E) ∙ ap (λ l. (((A ++ B) ++ C) ++ D) ++ l) (sym (append-nil E))
 
   n₂ : length (A ++ B) ≡ length A + length B
@@ -76,19 +62,14 @@ module _ (A B C D E : List ℕ) (o₀ o₁ o₂ o₃ o₄ o₅ : List ℕ) (a b 
   n₄ : length (((A ++ B) ++ C) ++ D) ≡ length A + length B + length C + length D
   n₄ = length-append ((A ++ B) ++ C) D ∙ ap (λ n. n + length D) n₃
 
-  pub laid : five (cut 0 a o₅) (cut a (b - a) o₅) (cut (a + (b - a)) (c - b) o₅) (cut (a + (b - a) + (c - b)) (d - c) o₅) (cut (a + (b - a) + (c - b) + (d - c)) (e - d) o₅) ≡ five A B C D E
+  pub laid : five (cut 0 a o₅) (cut a b o₅) (cut (a + b) c o₅) (cut (a + b + c) d o₅) (cut (a + b + c + d) e o₅) ≡ five A B C D E
   laid =
-      let x = a_is in
-      let y = b_is in
-      let z = c_is in
-      let v = d_is in
-      let w = e_is in
-      let end : e ≡ length A + length B + length C + length D + length E = omega (arith, p.count, q.count, r.count, s.count, t.count) in
-      let A' : cut 0 a o₅ ≡ A = piece o₅ [] A (B ++ (C ++ (D ++ E))) e 0 a all refl x (omega arith) in
-      let B' : cut a (b - a) o₅ ≡ B = piece o₅ A B (C ++ (D ++ E)) e a (b - a) all x y (omega arith) in
-      let C' : cut (a + (b - a)) (c - b) o₅ ≡ C = piece o₅ (A ++ B) C (D ++ E) e (a + (b - a)) (c - b) ab (omega (arith, n₂)) z (omega arith) in
-      let D' : cut (a + (b - a) + (c - b)) (d - c) o₅ ≡ D = piece o₅ ((A ++ B) ++ C) D E e (a + (b - a) + (c - b)) (d - c) abc (omega (arith, n₃)) v (omega arith) in
-      let E' : cut (a + (b - a) + (c - b) + (d - c)) (e - d) o₅ ≡ E = piece o₅ (((A ++ B) ++ C) ++ D) E [] e (a + (b - a) + (c - b) + (d - c)) (e - d) abcd (omega (arith, n₄)) w (omega arith) in
+      let end : m ≡ length A + length B + length C + length D + length E = omega (arith, p.count, q.count, r.count, s.count, t.count) in
+      let A' : cut 0 a o₅ ≡ A = piece o₅ [] A (B ++ (C ++ (D ++ E))) m 0 a all refl x (omega arith) in
+      let B' : cut a b o₅ ≡ B = piece o₅ A B (C ++ (D ++ E)) m a b all x y (omega arith) in
+      let C' : cut (a + b) c o₅ ≡ C = piece o₅ (A ++ B) C (D ++ E) m (a + b) c ab (omega (arith, n₂)) z (omega arith) in
+      let D' : cut (a + b + c) d o₅ ≡ D = piece o₅ ((A ++ B) ++ C) D E m (a + b + c) d abc (omega (arith, n₃)) v (omega arith) in
+      let E' : cut (a + b + c + d) e o₅ ≡ E = piece o₅ (((A ++ B) ++ C) ++ D) E [] m (a + b + c + d) e abcd (omega (arith, n₄)) w (omega arith) in
       (λ i. five (A' i) (B' i) (C' i) (D' i) (E' i))
 
 -- what a bearer that is served holds

@@ -28,18 +28,19 @@ costs n = grind (arith, nat_tests)
 
 pub parts_within : (p : Parts) → PartsWithin (parts_of p)
 parts_within p =
-    let a = costs p.calling in
-    let b = costs p.called in
-    let c = costs p.low in
-    let d = costs p.high in
-    let e = costs p.user in
-    let t = p.total in
+    let l = p.lengths in
+    let a = costs l.calling in
+    let b = costs l.called in
+    let c = costs l.low in
+    let d = costs l.high in
+    let e = costs l.user in
+    let t = l.total in
     let w = p.whole in
-    let A : length (calling_of p) ≡ p.calling = cut_length 0 p.calling p.octets (omega arith) in
-    let B : length (called_of p) ≡ p.called = cut_length p.calling p.called p.octets (omega arith) in
-    let C : length (low_of p) ≡ p.low = cut_length (p.calling + p.called) p.low p.octets (omega arith) in
-    let D : length (high_of p) ≡ p.high = cut_length (p.calling + p.called + p.low) p.high p.octets (omega arith) in
-    let E : length (user_of p) ≡ p.user = cut_length (p.calling + p.called + p.low + p.high) p.user p.octets (omega arith) in
+    let A : length (calling_of p) ≡ l.calling = cut_length 0 l.calling p.octets (omega arith) in
+    let B : length (called_of p) ≡ l.called = cut_length l.calling l.called p.octets (omega arith) in
+    let C : length (low_of p) ≡ l.low = cut_length (l.calling + l.called) l.low p.octets (omega arith) in
+    let D : length (high_of p) ≡ l.high = cut_length (l.calling + l.called + l.low) l.high p.octets (omega arith) in
+    let E : length (user_of p) ≡ l.user = cut_length (l.calling + l.called + l.low + l.high) l.user p.octets (omega arith) in
     record {
       calling = calling_of p;
       called = called_of p;
@@ -48,10 +49,11 @@ parts_within p =
       user = user_of p;
       are = refl;
       total = omega (arith, ap cost A, ap cost B, ap cost C, ap cost D, ap cost E);
-      few = omega (arith, p.few);
+      few = omega (arith, l.few);
     }
 
-none_within : PartsWithin []
+-- no parts
+pub none_within : PartsWithin []
 none_within = record { calling = []; called = []; low = []; high = []; user = []; are = refl; total = lit≤ tt; few = lit≤ tt }
 
 bearer_long : (b : Bearer) → (2 ≤ length (bearer_of b)) × (length (bearer_of b) ≤ 11)
@@ -78,7 +80,7 @@ bearer_served b =
         coded Audio = refl
 
 -- contents of a kind that is none of the three with rules of their own
-plain : (k : Kind) (c : Contents) → PartsWithin c.parts → (bears k ≡ false → c.parts ≡ []) → (k ≡ kind.Setup → ⊥) → (k ≡ kind.Progress → ⊥) → (k ≡ kind.Clear → ⊥) → Within k c
+pub plain : (k : Kind) (c : Contents) → PartsWithin c.parts → (bears k ≡ false → c.parts ≡ []) → (k ≡ kind.Setup → ⊥) → (k ≡ kind.Progress → ⊥) → (k ≡ kind.Clear → ⊥) → Within k c
 plain k c p b s g t = record { parts = p; bare = b; bearer = λ e. absurd (s e); number = λ e. absurd (s e); noted = λ e. absurd (g e); cause = λ e. absurd (t e) }
 
 pub within : (s : Signal) → Within (kind_of s) (contents_of s)

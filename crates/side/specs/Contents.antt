@@ -20,19 +20,19 @@ abbrev pub cut : ℕ → ℕ → List ℕ → List ℕ
 cut start n octets = take n (drop start octets)
 
 abbrev pub calling_of : Parts → List ℕ
-calling_of p = cut 0 p.calling p.octets
+calling_of p = cut 0 p.lengths.calling p.octets
 
 abbrev pub called_of : Parts → List ℕ
-called_of p = cut p.calling p.called p.octets
+called_of p = cut p.lengths.calling p.lengths.called p.octets
 
 abbrev pub low_of : Parts → List ℕ
-low_of p = cut (p.calling + p.called) p.low p.octets
+low_of p = cut (p.lengths.calling + p.lengths.called) p.lengths.low p.octets
 
 abbrev pub high_of : Parts → List ℕ
-high_of p = cut (p.calling + p.called + p.low) p.high p.octets
+high_of p = cut (p.lengths.calling + p.lengths.called + p.lengths.low) p.lengths.high p.octets
 
 abbrev pub user_of : Parts → List ℕ
-user_of p = cut (p.calling + p.called + p.low + p.high) p.user p.octets
+user_of p = cut (p.lengths.calling + p.lengths.called + p.lengths.low + p.lengths.high) p.lengths.user p.octets
 
 -- the parts by their tags: calling and called subaddress, low and high layer compatibility, user-user
 abbrev pub five : List ℕ → List ℕ → List ℕ → List ℕ → List ℕ → List Part

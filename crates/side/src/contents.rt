@@ -10,6 +10,7 @@ pub use making::contents_are_within_limits;
 use values::{Capability, NumberType};
 
 /// A bearer capability that is served: 2 to 11 octets.
+// An array of fixed size: readings are copied, and nothing is allocated for them.
 #[derive(Clone, Copy)]
 pub struct Bearer {
     octets: [u8; 11],

@@ -51,24 +51,24 @@ pub enum System {
 /// Why a message, a request or a cut is refused. The numbers are those of the table in docs/EXCHANGE.md.
 #[derive(Clone, Copy, PartialEq, Eq, Debug)]
 pub enum Reason {
-    /// 1: a buffer is below 256 octets.
-    ShortBuffer,
-    /// 2: the message is not built as it must be.
-    Malformed,
-    /// 3: a type or event that is not listed.
-    UnknownType,
-    /// 4: no such leg.
-    NoSuchLeg,
-    /// 5: a required content is missing.
-    Missing,
-    /// 6: a value is outside its rule.
-    BadValue,
-    /// 7: no row for the phase.
-    WrongPhase,
-    /// 8: a setup's route is missing, not callable or not idle.
-    NoRoute,
-    /// 9: the leg is in no call.
-    NotInCall,
+    /// A buffer is below 256 octets.
+    ShortBuffer = 1,
+    /// The message is not built as it must be.
+    Malformed = 2,
+    /// A type or event that is not listed.
+    UnknownType = 3,
+    /// No such leg.
+    NoSuchLeg = 4,
+    /// A required content is missing.
+    Missing = 5,
+    /// A value is outside its rule.
+    BadValue = 6,
+    /// No row for the phase.
+    WrongPhase = 7,
+    /// A setup's route is missing, not callable or not idle.
+    NoRoute = 8,
+    /// The leg is in no call.
+    NotInCall = 9,
 }
 
 /// The innermost layer in which a refusal arose; it rose through every one above it.

@@ -30,11 +30,11 @@ pub trait Signalling {
     /// The most legs of a side.
     const MOST_LEGS: usize;
 
+    ghost MOST_LEGS: { ℕ };
+
     ghost meaning: { Meaning Self.Record };
 
-    /// The most legs, as code that is generic over the system knows them.
-    fn leg_limit() -> usize
-        ensures { result ≡ meaning.most };
+    ghost most_legs: { MOST_LEGS ≡ meaning.most };
 
     /// Which system it is, for its refusals.
     fn system() -> System
@@ -80,6 +80,7 @@ pub trait Side {
     type Record: Copy;
 
     /// The most legs.
+    // Named in no clause: a book's is its system's, and a constant that is another's gets no clause of a trait yet.
     const MOST_LEGS: usize;
 
     ghost meaning: { Meaning Self.Record };

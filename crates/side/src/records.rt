@@ -22,6 +22,7 @@ pub struct CircuitRecord {
 }
 
 /// A number as a record keeps it: its digits as IA5 characters, padded with zeros.
+// An array and a count: a record is of fixed size and copied whole, and the host that lends it reads it as it lies.
 #[derive(Clone, Copy)]
 pub struct Dialled {
     pub octets: [u8; 20],

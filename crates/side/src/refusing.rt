@@ -1,5 +1,5 @@
 //! Refusals by a side's legs.
-ghost use Rattle.std.specs.Prelude.{◌≡◌, false, Some};
+ghost use Rattle.std.specs.Prelude.{◌≡◌, false, Some, None, MatchResult};
 ghost use Rattle.side.specs.Meaning.{reason_number};
 ghost use Rattle.side.specs.Steps.{row_fault};
 
@@ -25,14 +25,36 @@ pub fn no_row(system: System, room: usize) -> Refusal
     }
 }
 
+/// Refuses a take or a tell for which the leg has no row, or whose buffer is too short.
+pub fn check_row(system: System, room: usize, row: bool) -> Result<(), Refusal>
+    ensures { MatchResult result (λ _. row_fault system room row ≡ None) (λ e. row_fault system room row ≡ Some e) }
+{
+    if row && room >= LEAST_BUFFER {
+        Ok(())
+    } else {
+        Err(no_row(system, room))
+    }
+}
+
 /// What stands against a take or a tell.
 pub fn row_fault(system: System, room: usize, row: bool) -> Option<Refusal>
     ensures { result ≡ row_fault system room row }
 {
-    if room >= LEAST_BUFFER && row {
-        return None;
+    check_row(system, room, row).err()
+}
+
+impl System {
+    /// A refusal of a message by this system's rules.
+    pub fn refuses(self, reason: Reason, place: usize) -> Refusal
+        ensures { result ≡ record { reason = reason; place = place; system = self; layer = Layer.Message } }
+    {
+        Refusal {
+            reason,
+            place,
+            system: self,
+            layer: Layer::Message,
+        }
     }
-    Some(no_row(system, room))
 }
 
 impl Reason {
@@ -40,6 +62,6 @@ impl Reason {
     pub fn number(self) -> u8
         ensures { result ≡ reason_number self }
     {
-        self as u8 + 1
+        self as u8
     }
 }

@@ -18,16 +18,17 @@ impl Kind {
     pub fn heard_in(self, phase: Phase) -> bool
         ensures { result ≡ heard_in self phase }
     {
-        let n = phase.number();
         match self {
-            Kind::Setup => n == 0,
-            Kind::Complete => n == 3,
-            Kind::Progress => 3 <= n && n <= 5,
-            Kind::Alerting => 3 <= n && n <= 4,
-            Kind::Answer => 3 <= n && n <= 5,
-            Kind::Quiet => 1 <= n && n <= 6,
+            Kind::Setup => matches!(phase, Phase::Idle),
+            Kind::Complete => matches!(phase, Phase::Called),
+            Kind::Alerting => matches!(phase, Phase::Called | Phase::CalledComplete),
+            Kind::Progress | Kind::Answer => matches!(
+                phase,
+                Phase::Called | Phase::CalledComplete | Phase::Alerted
+            ),
+            Kind::Quiet => !matches!(phase, Phase::Idle | Phase::Clearing),
             Kind::Clear => true,
-            Kind::Down => n == 7,
+            Kind::Down => matches!(phase, Phase::Clearing),
         }
     }
 
@@ -35,11 +36,12 @@ impl Kind {
     pub fn told_in(self, callable: bool, phase: Phase) -> bool
         ensures { result ≡ told_in self callable phase }
     {
-        let n = phase.number();
         match self {
-            Kind::Setup => callable && n == 0,
-            Kind::Complete | Kind::Progress | Kind::Alerting | Kind::Answer => 1 <= n && n <= 2,
-            Kind::Clear => 1 <= n && n <= 6,
+            Kind::Setup => callable && matches!(phase, Phase::Idle),
+            Kind::Complete | Kind::Progress | Kind::Alerting | Kind::Answer => {
+                matches!(phase, Phase::Calling | Phase::CallingComplete)
+            }
+            Kind::Clear => !matches!(phase, Phase::Idle | Phase::Clearing),
             Kind::Quiet | Kind::Down => false,
         }
     }

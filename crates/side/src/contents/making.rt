@@ -17,7 +17,7 @@ impl Bearer {
         let capability = values::bearer(contents)?;
         let count = contents.len();
         let mut octets = [0u8; 11];
-        octets[0..count].copy_from_slice(contents);
+        octets[..count].copy_from_slice(contents);
         Ok(Bearer {
             octets,
             count,
@@ -41,7 +41,7 @@ impl Bearer {
     pub fn as_octets(&self) -> &[u8]
         ensures { result.now ≡ bearer_of self.now }
     {
-        &self.octets[0..self.count]
+        &self.octets[..self.count]
     }
 
     /// What it asks the connection to carry.
@@ -117,9 +117,9 @@ impl Progress {
         ensures { Options.option_map progress_of result ≡ noted contents.now }
     {
         match contents {
-            [location, description, ..] => Some(Progress {
-                location: *location,
-                description: *description,
+            &[location, description, ..] => Some(Progress {
+                location,
+                description,
             }),
             _ => None,
         }
@@ -129,10 +129,7 @@ impl Progress {
     pub fn described(self) -> u8
         ensures { result ≡ described (progress_of self) }
     {
-        match values::progress(&[self.location, self.description]) {
-            Some((_, description)) => description,
-            None => 0,
-        }
+        self.description % 128
     }
 }
 
@@ -142,21 +139,19 @@ impl Signal {
         ensures { result ≡ kind_of self.now }
     {
         match self {
-            Signal::Setup(_) => Kind::Setup,
-            Signal::Complete(_, _) => Kind::Complete,
-            Signal::Progress(_, _) => Kind::Progress,
-            Signal::Alerting(_, _, _) => Kind::Alerting,
-            Signal::Answer(_, _, _) => Kind::Answer,
+            Signal::Setup(..) => Kind::Setup,
+            Signal::Complete(..) => Kind::Complete,
+            Signal::Progress(..) => Kind::Progress,
+            Signal::Alerting(..) => Kind::Alerting,
+            Signal::Answer(..) => Kind::Answer,
             Signal::Quiet => Kind::Quiet,
-            Signal::Clear(_, _) => Kind::Clear,
+            Signal::Clear(..) => Kind::Clear,
             Signal::Down => Kind::Down,
         }
     }
 }
 
 /// Whatever a signal says is within the limits of its kind: others cannot be made.
-pub fn contents_are_within_limits() -> u8
+pub fn contents_are_within_limits()
     ensures { AllWithin }
-{
-    0
-}
+{}

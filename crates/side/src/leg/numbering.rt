@@ -8,12 +8,9 @@ impl Leg {
     pub fn new(number: usize) -> Option<Leg>
         ensures { option_map (λ l. l.number) result ≡ (if nat_lt number 64 then Some number else None) }
     {
-        if number < 64 {
-            Some(Leg {
-                number: number as u8,
-            })
-        } else {
-            None
+        match u8::try_from(number) {
+            Ok(number) if number < 64 => Some(Leg { number }),
+            _ => None,
         }
     }
 
@@ -41,6 +38,6 @@ impl Leg {
         ensures is { result ≡ self.number }
         ensures few { result < 64 }
     {
-        self.number as usize
+        usize::from(self.number)
     }
 }

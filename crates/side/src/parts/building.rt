@@ -1,62 +1,70 @@
-ghost use Rattle.std.specs.Prelude.{◌≡◌, ℕ, ◌+◌, ◌<◌, ◌≤◌, [], length, IfNone, if◌then◌else◌, Some, None, MatchResult, nat_lt};
+ghost use Rattle.std.specs.Prelude.{◌≡◌, ℕ, ◌+◌, ◌<◌, ◌≤◌, [], length, if◌then◌else◌, Some, None, IfOk, MatchResult, nat_lt};
 ghost use Rattle.writer.specs.Written.{Adds};
 ghost use Rattle.side.specs.Limits.{cost};
-ghost use Rattle.side.specs.Contents.{five, parts_of, calling_of, called_of, low_of, high_of, user_of, came, parts_fault};
+ghost use Rattle.side.specs.Contents.{cut, five, parts_of, calling_of, called_of, low_of, high_of, user_of, came, parts_fault};
 
-use super::{MOST_PARTS, MOST_USER_USER, Parts};
+use super::{Lengths, MOST_PARTS, MOST_USER_USER, Parts};
 use crate::kinds::PartsFault;
 
-/// How many octets came.
-fn held(part: Option<&[u8]>) -> usize
-    ensures { result ≡ length (came part.entry) }
+/// The contents that came; what did not come is empty.
+fn came(part: Option<&[u8]>) -> &[u8]
+    ensures { result.now ≡ came part.entry }
 {
-    match part {
-        Some(contents) => contents.len(),
-        None => 0,
-    }
+    part.unwrap_or(&[])
 }
 
 /// How many octets a part takes in a message; anything above the most is one more than the most.
 fn cost_of(n: usize) -> usize
     ensures { result ≡ (if nat_lt 200 n then 201 else cost n) }
 {
-    if n > MOST_PARTS {
-        MOST_PARTS + 1
-    } else if n == 0 {
-        0
-    } else {
-        n + 2
+    match n {
+        0 => 0,
+        1..=MOST_PARTS => n + 2,
+        _ => MOST_PARTS + 1,
     }
 }
 
 /// Contents behind those that stand already.
-fn append(octets: &mut [u8], at: usize, part: Option<&[u8]>) -> usize
-    requires { at + length (came part) ≤ length octets.old }
-    ensures { Adds (came part.entry) at octets.old result octets.new }
+fn append(octets: &mut [u8], at: usize, contents: &[u8]) -> usize
+    requires { at + length contents.now ≤ length octets.old }
+    ensures { Adds contents.now at octets.old result octets.new }
 {
-    match part {
-        Some(contents) => {
-            let end = at + contents.len();
-            octets[at..end].copy_from_slice(contents);
-            end
-        }
-        None => at,
-    }
+    let end = at + contents.len();
+    octets[at..end].copy_from_slice(contents);
+    end
 }
 
-/// What stands against parts of these lengths.
-fn fault(calling: usize, called: usize, low: usize, high: usize, user: usize) -> Option<PartsFault>
-    ensures value { result ≡ parts_fault calling called low high user }
-    ensures room { IfNone result ((cost calling + cost called + cost low + cost high + cost user ≤ 200) × (user ≤ 129)) }
-{
-    let total = cost_of(calling) + cost_of(called) + cost_of(low) + cost_of(high) + cost_of(user);
-    if total > MOST_PARTS {
-        return Some(PartsFault::TotalOver);
+impl Lengths {
+    /// These lengths, if parts of so many octets are carried.
+    fn new(
+        calling: usize,
+        called: usize,
+        low: usize,
+        high: usize,
+        user: usize,
+    ) -> Result<Lengths, PartsFault>
+        ensures fault { MatchResult result (λ _. parts_fault calling called low high user ≡ None) (λ e. parts_fault calling called low high user ≡ Some e) }
+        ensures same { IfOk result (λ l. (l.calling ≡ calling) × (l.called ≡ called) × (l.low ≡ low) × (l.high ≡ high) × (l.user ≡ user)) }
+    {
+        let total = cost_of(calling)
+            + cost_of(called)
+            + cost_of(low)
+            + cost_of(high)
+            + cost_of(user);
+        if total > MOST_PARTS {
+            return Err(PartsFault::TotalOver);
+        }
+        if user > MOST_USER_USER {
+            return Err(PartsFault::UserUserOver);
+        }
+        Ok(Lengths {
+            calling,
+            called,
+            low,
+            high,
+            user,
+        })
     }
-    if user > MOST_USER_USER {
-        return Some(PartsFault::UserUserOver);
-    }
-    None
 }
 
 impl Parts {
@@ -66,11 +74,13 @@ impl Parts {
     {
         Parts {
             octets: [0; 200],
-            calling: 0,
-            called: 0,
-            low: 0,
-            high: 0,
-            user: 0,
+            lengths: Lengths {
+                calling: 0,
+                called: 0,
+                low: 0,
+                high: 0,
+                user: 0,
+            },
         }
     }
 
@@ -84,81 +94,90 @@ impl Parts {
     ) -> Result<Parts, PartsFault>
         ensures { MatchResult result (λ p. (parts_fault (length (came calling.entry)) (length (came called.entry)) (length (came low.entry)) (length (came high.entry)) (length (came user.entry)) ≡ None) × (parts_of p ≡ five (came calling.entry) (came called.entry) (came low.entry) (came high.entry) (came user.entry))) (λ e. parts_fault (length (came calling.entry)) (length (came called.entry)) (length (came low.entry)) (length (came high.entry)) (length (came user.entry)) ≡ Some e) }
     {
-        if let Some(fault) = fault(
-            held(calling),
-            held(called),
-            held(low),
-            held(high),
-            held(user),
-        ) {
-            return Err(fault);
-        }
-        let mut octets = [0u8; 200];
+        let calling = came(calling);
+        let called = came(called);
+        let low = came(low);
+        let high = came(high);
+        let user = came(user);
+        let lengths = Lengths::new(
+            calling.len(),
+            called.len(),
+            low.len(),
+            high.len(),
+            user.len(),
+        )?;
+        let mut octets = [0; 200];
         let a = append(&mut octets, 0, calling);
         let b = append(&mut octets, a, called);
         let c = append(&mut octets, b, low);
         let d = append(&mut octets, c, high);
-        let e = append(&mut octets, d, user);
-        Ok(Parts {
-            octets,
-            calling: a,
-            called: b - a,
-            low: c - b,
-            high: d - c,
-            user: e - d,
-        })
+        append(&mut octets, d, user);
+        Ok(Parts { octets, lengths })
+    }
+
+    /// So many octets from a place on.
+    fn cut(&self, start: usize, n: usize) -> &[u8]
+        requires { start + n ≤ 200 }
+        ensures { result.now ≡ cut start n self.now.octets }
+    {
+        &self.octets[start..start + n]
     }
 
     /// The contents of the calling party's subaddress.
     pub fn calling(&self) -> &[u8]
         ensures { result.now ≡ calling_of self.now }
     {
-        &self.octets[0..self.calling]
+        self.cut(0, self.lengths.calling)
     }
 
     /// The contents of the called party's subaddress.
     pub fn called(&self) -> &[u8]
         ensures { result.now ≡ called_of self.now }
     {
-        &self.octets[self.calling..self.calling + self.called]
+        self.cut(self.lengths.calling, self.lengths.called)
     }
 
     /// The contents of the low layer compatibility.
     pub fn low(&self) -> &[u8]
         ensures { result.now ≡ low_of self.now }
     {
-        let start = self.calling + self.called;
-        &self.octets[start..start + self.low]
+        let lengths = self.lengths;
+        let start = lengths.calling + lengths.called;
+        self.cut(start, lengths.low)
     }
 
     /// The contents of the high layer compatibility.
     pub fn high(&self) -> &[u8]
         ensures { result.now ≡ high_of self.now }
     {
-        let start = self.calling + self.called + self.low;
-        &self.octets[start..start + self.high]
+        let lengths = self.lengths;
+        let start = lengths.calling + lengths.called + lengths.low;
+        self.cut(start, lengths.high)
     }
 
     /// The contents of user-user.
     pub fn user_user(&self) -> &[u8]
         ensures { result.now ≡ user_of self.now }
     {
-        let start = self.calling + self.called + self.low + self.high;
-        &self.octets[start..start + self.user]
+        let lengths = self.lengths;
+        let start = lengths.calling + lengths.called + lengths.low + lengths.high;
+        self.cut(start, lengths.user)
     }
 
     /// The same without user-user.
     pub fn without_user_user(self) -> Parts
         ensures { parts_of result ≡ five (calling_of self) (called_of self) (low_of self) (high_of self) [] }
     {
-        let octets = self.octets;
+        let Parts { octets, lengths } = self;
         Parts {
             octets,
-            calling: self.calling,
-            called: self.called,
-            low: self.low,
-            high: self.high,
-            user: 0,
+            lengths: Lengths {
+                calling: lengths.calling,
+                called: lengths.called,
+                low: lengths.low,
+                high: lengths.high,
+                user: 0,
+            },
         }
     }
 }

@@ -1,13 +1,14 @@
-use Rattle.std.proofs.Common.{◌≡◌, ◌<◌, min, length, refl, arith, rules}
-use Rattle.book.proofs.Fills.{fill_next, filled}
+use Rattle.std.proofs.Common.{◌≡◌, min, length, refl, arith, rules}
+use Rattle.book.proofs.Fills.{all_same, filled}
 use Rattle.book.proofs.LegBook.open.Goals as goal
-
-pub loop-i-preserved : goal.loop-i-preserved
-loop-i-preserved g c =
-    let here : c.loop-i.i < length c.args.records.now = search rules in
-    (omega arith, fill_next c.loop-i.i c.args.records.now c.loop-i.records _ _ here c.loop-i.invariant.1 c.blank.ensures)
 
 pub returns : goal.returns
 returns g c =
-    let all : c.loop-i.i ≡ min (length c.args.records.now) g.S.Signalling.meaning.most = search rules in
-    record { records = filled c.loop-i.i g.S.Signalling.meaning.most c.args.records.now c.loop-i.records _ all c.loop-i.invariant.1; lender = refl }
+    let M = g.S.Signalling.meaning in
+    let h = c.fill_with.ensures.ran in
+    let n : c.min-n.result ≡ min M.most (length c.args.records.now) = omega (arith, c.min-n.ensures, c.MOST_LEGS.ensures, g.S.Signalling.most_legs) in
+    record {
+      records = filled c.min-n.result M.most c.args.records.now c.fill_with.new.self M.blank n c.fill_with.ensures.len
+          (all_same _ M.blank (λ p x q s. search rules) _ _ _ h.1);
+      lender = refl;
+    }

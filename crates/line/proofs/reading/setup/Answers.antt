@@ -16,4 +16,4 @@ returns-in-Ok c =
     ∙ setup_read_from c.args.message.now _ c.in-Ok.ensures
 
 pub returns-in-Err : goal.returns-in-Err
-returns-in-Err c = ap Err (c.refuse.ensures ∙ ap (refusal BadValue) c.digit_place.ensures) ∙ setup_read_from c.args.message.now _ c.in-Err.ensures
+returns-in-Err c = ap Err (c.refuses.ensures ∙ ap (refusal BadValue) c.digit_place.ensures) ∙ setup_read_from c.args.message.now _ c.in-Err.ensures
