@@ -1,6 +1,6 @@
 -- The messages of DSS 1: what is read, what is refused and where, what is written, what is kept.
 -- Rests on element lists, on the values inside elements, on the kinds and on the table of phases.
-use Rattle.std.specs.Prelude.{◌≡◌, ℕ, ◌+◌, ◌-◌, ◌*◌, ◌/◌, ◌%◌, ◌<◌, Bool, true, false, cond, not, ◌&&◌, ◌||◌, List, [], ◌∷◌, ◌++◌, length, drop, is_some, is_ok, Some, None, Ok, Err, Option, Result, ◌==◌, nat_le, nat_lt, slice_index}
+use Rattle.std.specs.Prelude.{◌≡◌, ℕ, ◌+◌, ◌-◌, ◌*◌, ◌/◌, ◌%◌, ◌<◌, Bool, true, false, cond, not, ◌&&◌, ◌||◌, List, [], ◌∷◌, ◌++◌, length, drop, is_some, is_ok, ok_or, Some, None, Ok, Err, Option, Result, ◌==◌, nat_le, nat_lt, slice_index}
 use Rattle.elements.specs.declared.types.ListFault.{ListFault}
 use Rattle.elements.specs.declared.types.ListFault.TheVariants.{BreaksOff, NoEnd}
 use Rattle.elements.specs.Elements.{checked}
@@ -29,6 +29,7 @@ use Rattle.side.specs.declared.records.Dss1Record.{Dss1Record}
 use Rattle.carried.specs.Carried.{Five, five_in, parts_of, fault_of, part_at, progress_octets, cause_octets, tag_place, bad_at, parts_bad_at, sooner, told_bearer}
 use Rattle.dss1_meaning.specs.declared.types.MessageType.{MessageType}
 use Rattle.dss1_meaning.specs.declared.types.MessageType.TheVariants as type
+use Rattle.dss1_meaning.specs.declared.types.UnknownType.{UnknownType as UnknownOctet}
 
 abbrev pub refusal : Reason → ℕ → Refusal
 refusal r p = record { reason = r; place = p; system = Dss1; layer = Message }
@@ -60,6 +61,10 @@ type_octet type.ConnectAcknowledge = 0x0F
 type_octet type.Disconnect = 0x45
 type_octet type.Release = 0x4D
 type_octet type.ReleaseComplete = 0x5A
+
+-- the type that an octet stands for, or the octet that stands for none
+abbrev pub type_or_unknown : ℕ → Result MessageType UnknownOctet
+type_or_unknown t = ok_or (type_in t) (record { 0 = t })
 
 -- which end reads a message: the exchange's or the user's
 pub data End : Type 0 where
