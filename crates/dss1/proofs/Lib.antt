@@ -1,2 +1,1 @@
-pub mod Shorts
 pub mod Writings

@@ -1,6 +1,6 @@
 -- What the writer makes of the elements of a message. Assumes nothing.
 use Rattle.std.proofs.Common.{◌≡◌, ℕ, ◌+◌, ◌<◌, ◌≤◌, List, [], ◌∷◌, ◌++◌, length, drop, Result, sym, refl, ap, ◌∙◌, subst, append-nil, arith, Bor, MatchResult}
-use Rattle.std.proofs.lemmas.List.{length-take-le, take-append-drop}
+use Rattle.std.proofs.lemmas.List.{take-append-drop}
 use Rattle.std.proofs.lemmas.Result.{MatchResult-weaker}
 use Rattle.writer.specs.declared.types.Item.{Item}
 use Rattle.writer.specs.declared.types.WriteFault.{WriteFault}
@@ -13,30 +13,19 @@ use Rattle.entries.specs.Codings.{dss1}
 use Rattle.entries.specs.Entries.{listed, Ascending}
 use Rattle.entries.specs.Rows.{items_of, entries_of}
 use Rattle.entries.proofs.Rows.{adds, not_refused}
+use Rattle.held.specs.Held.{octets_of}
+use Rattle.held.proofs.Lengths.{held_few}
 use Rattle.side.specs.Contents.{parts_of, calling_of, called_of, low_of, high_of, user_of}
 use Rattle.side.specs.Steps.{written}
 use Rattle.side.proofs.Limited.{parts_within}
 use Rattle.carried.proofs.PartLaws.{part_calling, part_called, part_low, part_high, part_user}
 use Rattle.dss1_meaning.proofs.Telling.{Fits, table_fits}
-use Rattle.dss1.specs.declared.fields.Short.{Short}
 use Rattle.dss1.specs.declared.fields.Fields.{Fields}
-use Rattle.dss1.specs.Fields.{octets_of, table_of}
-
-short_length : (s : Short) → length (octets_of s) ≡ s.count
-short_length s = let r = s.room in let m = s.most in length-take-le s.count s.octets (omega arith)
+use Rattle.dss1.specs.Fields.{table_of}
 
 -- what a message holds fits one
 pub fields_fit : (f : Fields) → Fits (table_of f)
-fields_fit f =
-    let b = short_length f.bearer in
-    let c = short_length f.cause in
-    let p = short_length f.progress in
-    let n = short_length f.number in
-    let h = f.bearing in
-    let i = f.causing in
-    let j = f.noting in
-    let k = f.number.most in
-    table_fits (octets_of f.bearer) (octets_of f.cause) (octets_of f.progress) (octets_of f.number) (parts_of f.parts) (parts_within f.parts) (omega arith) (omega arith) (omega arith) (omega arith)
+fields_fit f = table_fits (octets_of f.bearer) (octets_of f.cause) (octets_of f.progress) (octets_of f.number) (parts_of f.parts) (parts_within f.parts) (held_few f.bearer) (held_few f.cause) (held_few f.progress) (held_few f.number)
 
 -- references to what the elements hold
 module _ (f : Fields) (bearer cause progress calling number called low high user : Bor (List ℕ))

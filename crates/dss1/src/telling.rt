@@ -44,10 +44,10 @@ fn send(leg: Leg, message: MessageType, fields: &Fields, out: &mut [u8]) -> usiz
 fn reply_to(heard: u8) -> Option<MessageType>
     ensures { result ≡ reply_to heard }
 {
-    match MessageType::from_octet(heard) {
-        Some(MessageType::Connect) => Some(MessageType::ConnectAcknowledge),
-        Some(MessageType::Disconnect) => Some(MessageType::Release),
-        Some(MessageType::Release) => Some(MessageType::ReleaseComplete),
+    match MessageType::try_from(heard) {
+        Ok(MessageType::Connect) => Some(MessageType::ConnectAcknowledge),
+        Ok(MessageType::Disconnect) => Some(MessageType::Release),
+        Ok(MessageType::Release) => Some(MessageType::ReleaseComplete),
         _ => None,
     }
 }
@@ -56,8 +56,8 @@ fn reply_to(heard: u8) -> Option<MessageType>
 fn cleared_by(heard: u8) -> Phase
     ensures { result ≡ cleared_by heard }
 {
-    match MessageType::from_octet(heard) {
-        Some(MessageType::Disconnect) => Phase::Clearing,
+    match MessageType::try_from(heard) {
+        Ok(MessageType::Disconnect) => Phase::Clearing,
         _ => Phase::Idle,
     }
 }
@@ -132,10 +132,7 @@ fn say(leg: Leg, signal: &Signal, out: &mut [u8]) -> usize
     ensures long { result ≡ length (told_octets leg.number (told_type (kind_of signal.now)) (told_elements (kind_of signal.now) (contents_of signal.now))) }
 {
     match message_of(signal) {
-        Some(told) => {
-            let (message, fields) = told;
-            send(leg, message, &fields, out)
-        }
+        Some((message, fields)) => send(leg, message, &fields, out),
         None => 0,
     }
 }

@@ -7,7 +7,9 @@ ghost use Rattle.dss1_meaning.specs.Dss1.{table, or_noted, number_octets};
 ghost use Rattle.dss1_reading.specs.Reads.{number_of};
 ghost use Rattle.dss1.specs.Fields.{table_of};
 
-use super::{Fields, Short};
+use super::Fields;
+use super::making::{bearer_octets, cause_octets, number_octets, progress_octets};
+use held::Held;
 use side::contents::{Cause, Progress, Setup};
 use side::parts::Parts;
 
@@ -26,10 +28,7 @@ const DESTINATION_NO_ISDN: Progress = Progress {
 fn noted_or(progress: Option<Progress>, isdn: bool, other: Progress) -> Option<Progress>
     ensures { option_map progress_of result ≡ or_noted (option_map progress_of progress) isdn (progress_of other) }
 {
-    match progress {
-        Some(progress) => Some(progress),
-        None => if isdn { None } else { Some(other) },
-    }
+    progress.or(if isdn { None } else { Some(other) })
 }
 
 impl Fields {
@@ -38,10 +37,10 @@ impl Fields {
         ensures { table_of result ≡ table [] [] [] [] [] }
     {
         Fields {
-            bearer: Short::none(),
-            cause: Short::none(),
-            progress: Short::none(),
-            number: Short::none(),
+            bearer: Held::none(),
+            cause: Held::none(),
+            progress: Held::none(),
+            number: Held::none(),
             parts: Parts::none(),
         }
     }
@@ -51,11 +50,11 @@ impl Fields {
         ensures { table_of result ≡ table (bearer_of setup.now.bearer) [] (progress_octets (or_noted (option_map progress_of setup.now.progress) setup.now.isdn (0x82, 0x83))) (number_octets (Some (number_of setup.now.number))) (parts_of setup.now.parts) }
     {
         Fields {
-            bearer: Short::bearer(&setup.bearer),
-            cause: Short::none(),
-            progress: Short::progress(noted_or(setup.progress, setup.isdn, ORIGIN_NO_ISDN)),
-            number: Short::number(&setup.number),
+            bearer: bearer_octets(&setup.bearer),
+            progress: progress_octets(noted_or(setup.progress, setup.isdn, ORIGIN_NO_ISDN)),
+            number: number_octets(&setup.number),
             parts: setup.parts,
+            ..Fields::none()
         }
     }
 
@@ -64,11 +63,8 @@ impl Fields {
         ensures { table_of result ≡ table [] [] (progress_octets (option_map progress_of progress)) [] [] }
     {
         Fields {
-            bearer: Short::none(),
-            cause: Short::none(),
-            progress: Short::progress(progress),
-            number: Short::none(),
-            parts: Parts::none(),
+            progress: progress_octets(progress),
+            ..Fields::none()
         }
     }
 
@@ -77,11 +73,8 @@ impl Fields {
         ensures { table_of result ≡ table [] [] (progress_octets (or_noted (option_map progress_of progress) isdn (0x82, 0x82))) [] (parts_of parts) }
     {
         Fields {
-            bearer: Short::none(),
-            cause: Short::none(),
-            progress: Short::progress(noted_or(progress, isdn, DESTINATION_NO_ISDN)),
-            number: Short::none(),
             parts,
+            ..Fields::progress(noted_or(progress, isdn, DESTINATION_NO_ISDN))
         }
     }
 
@@ -90,11 +83,9 @@ impl Fields {
         ensures { table_of result ≡ table [] (cause_octets (Some (cause_of cause))) [] [] (parts_of parts) }
     {
         Fields {
-            bearer: Short::none(),
-            cause: Short::cause(cause),
-            progress: Short::none(),
-            number: Short::none(),
+            cause: cause_octets(cause),
             parts,
+            ..Fields::none()
         }
     }
 }
