@@ -1,6 +1,6 @@
 -- The messages of ISUP as they are read: circuit, type, fixed octets, pointers, the fields they reach; refusals and their places.
 -- Rests on element lists, on the values inside parameters and on the kinds.
-use Rattle.std.specs.Prelude.{ℕ, ◌+◌, ◌*◌, ◌/◌, ◌%◌, Bool, true, false, cond, not, ◌&&◌, ◌||◌, List, [], ◌∷◌, length, take, drop, is_some, is_ok, Some, None, Ok, Err, Option, Result, ◌==◌, nat_le, nat_lt, slice_index}
+use Rattle.std.specs.Prelude.{◌≡◌, ℕ, ◌+◌, ◌*◌, ◌/◌, ◌%◌, Bool, true, false, cond, not, ◌&&◌, ◌||◌, List, [], ◌∷◌, length, take, drop, is_some, is_ok, Some, None, Ok, Err, Option, Result, MatchResult, ◌==◌, nat_le, nat_lt, slice_index}
 use Rattle.elements.specs.declared.types.ListFault.{ListFault}
 use Rattle.elements.specs.declared.types.ListFault.TheVariants.{BreaksOff, NoEnd}
 use Rattle.elements.specs.Elements.{checked}
@@ -23,6 +23,7 @@ use Rattle.side.specs.Signals.{Contents, Heard, empty}
 use Rattle.carried.specs.Carried.{Five, five_in, parts_of, fault_of, progress_in, tag_place, bad_at, parts_bad_at, sooner}
 use Rattle.isup_meaning.specs.declared.types.MessageType.{MessageType}
 use Rattle.isup_meaning.specs.declared.types.MessageType.TheVariants as type
+use Rattle.isup_meaning.specs.declared.types.UnknownType.{UnknownType as NoType}
 
 abbrev pub refusal : Reason → ℕ → Refusal
 refusal r p = record { reason = r; place = p; system = Isup; layer = Message }
@@ -44,6 +45,10 @@ type_in t =
     (cond (t == 0x0C) (Some type.Release)
     (cond (t == 0x10) (Some type.ReleaseComplete)
     (cond (t == 0x2C) (Some type.CallProgress) None))))))
+
+-- a type is the one that an octet stands for, or the octet stands for none
+abbrev pub TypeRead : ℕ → Result MessageType NoType → Type 0
+TypeRead octet r = MatchResult r (λ t. Some t ≡ type_in octet) (λ e. (None ≡ type_in octet) × (e.0 ≡ octet))
 
 abbrev pub type_octet : MessageType → ℕ
 type_octet type.InitialAddress = 0x01
