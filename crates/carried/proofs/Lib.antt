@@ -1,3 +1,4 @@
 pub mod Numbers
 pub mod PartLaws
+pub mod Refusals
 pub mod Served

@@ -9,6 +9,7 @@ use Rattle.elements.specs.declared.types.EndRule.{EndRule}
 use Rattle.elements.specs.Elements.{place_of}
 use Rattle.entries.specs.Codings.{dss1}
 use Rattle.entries.specs.Entries.{found}
+use Rattle.side.specs.declared.kinds.Refusal.{Refusal}
 use Rattle.side.specs.declared.kinds.PartsFault.{PartsFault}
 use Rattle.side.specs.declared.kinds.PartsFault.TheVariants.{TotalOver, UserUserOver}
 use Rattle.side.specs.Contents.{Part, five, parts_fault}
@@ -93,3 +94,25 @@ abbrev pub sooner : Option ℕ → Option ℕ → Option ℕ
 sooner None b = b
 sooner (Some a) None = Some a
 sooner (Some a) (Some b) = Some (cond (nat_le a b) a b)
+
+-- of two refusals the one at the smaller place, the first of two at one place
+abbrev pub first_of : Refusal → Refusal → Refusal
+first_of a b = cond (nat_le a.place b.place) a b
+
+-- the same where something may stand against each of two things
+abbrev pub earlier : Option Refusal → Option Refusal → Option Refusal
+earlier None b = b
+earlier (Some a) None = Some a
+earlier (Some a) (Some b) = Some (first_of a b)
+
+-- both values, or the refusal at the smaller place
+abbrev pub both : {A B : Type 0} → Result A Refusal → Result B Refusal → Result (A × B) Refusal
+both (Ok a) (Ok b) = Ok (a, b)
+both (Ok a) (Err f) = Err f
+both (Err e) (Ok b) = Err e
+both (Err e) (Err f) = Err (first_of e f)
+
+-- what stands against a value
+abbrev pub refused : {A : Type 0} → Result A Refusal → Option Refusal
+refused (Ok a) = None
+refused (Err e) = Some e

@@ -9,11 +9,11 @@ ghost use Rattle.entries.specs.Entries.{found};
 ghost use Rattle.side.specs.Contents as side;
 ghost use Rattle.side.specs.Signals as signals;
 ghost use Rattle.side.specs.Contents.{came};
-ghost use Rattle.carried.specs.Carried.{five_in, parts_of, fault_of, progress_in, sooner, parts_bad_at};
+ghost use Rattle.carried.specs.Carried.{five_in, parts_of, fault_of, progress_in, sooner, first_of, earlier, both, parts_bad_at};
 
 use elements::Dss1;
 use side::contents::Progress;
-use side::kinds::PartsFault;
+use side::kinds::{PartsFault, Refusal};
 use side::parts::Parts;
 
 /// The tag of a progress indicator.
@@ -33,10 +33,7 @@ pub const USER_USER: u8 = 0x7E;
 pub fn progress(list: &[u8]) -> Option<Progress>
     ensures { Options.option_map signals.progress_of result ≡ progress_in list.now }
 {
-    match elements::contents::<Dss1>(list, PROGRESS) {
-        Some(contents) => Progress::read(contents),
-        None => None,
-    }
+    Progress::read(elements::contents::<Dss1>(list, PROGRESS)?)
 }
 
 /// The parts in a list, with the user-user that was found beside it.
@@ -57,9 +54,38 @@ pub fn sooner(a: Option<usize>, b: Option<usize>) -> Option<usize>
     ensures { result ≡ sooner a b }
 {
     match (a, b) {
-        (Some(a), Some(b)) => Some(if a <= b { a } else { b }),
-        (Some(a), None) => Some(a),
-        (None, b) => b,
+        (Some(a), Some(b)) => Some(a.min(b)),
+        (a, b) => a.or(b),
+    }
+}
+
+/// Of two refusals the one at the smaller place, the first of two at one place.
+fn first_of(a: Refusal, b: Refusal) -> Refusal
+    ensures { result ≡ first_of a b }
+{
+    if a.place <= b.place { a } else { b }
+}
+
+/// What stands first, where something may stand against each of two things.
+pub fn earlier(a: Option<Refusal>, b: Option<Refusal>) -> Option<Refusal>
+    ensures { result ≡ earlier a b }
+{
+    match (a, b) {
+        (Some(a), Some(b)) => Some(first_of(a, b)),
+        (a, b) => a.or(b),
+    }
+}
+
+/// Both values, or the refusal at the smaller place, the first of two at one place.
+pub fn both<A: Copy, B: Copy>(
+    a: Result<A, Refusal>,
+    b: Result<B, Refusal>,
+) -> Result<(A, B), Refusal>
+    ensures { result ≡ both a b }
+{
+    match (a, b) {
+        (Err(a), Err(b)) => Err(first_of(a, b)),
+        (a, b) => Ok((a?, b?)),
     }
 }
 
