@@ -11,9 +11,10 @@ use Rattle.side.specs.declared.kinds.Reason.TheVariants.{Malformed, UnknownType,
 use Rattle.side.specs.declared.kinds.Refusal.{Refusal}
 use Rattle.side.specs.Signals.{Contents}
 use Rattle.side.specs.Meaning.{reason_number}
+use Rattle.carried.specs.Carried.{earlier}
 use Rattle.isup_meaning.specs.declared.types.MessageType.{MessageType}
 use Rattle.isup_meaning.specs.declared.types.MessageType.TheVariants as type
-use Rattle.isup_meaning.specs.Reading.{Body, Said, refusal, circuit_in, headed, type_in, fixed_count, has_field, field_pointer, list_pointer, pointed, field_fault, list_fault, optional_fault, nested_fault, earlier, body_in, broken, progress_of, backward_isdn, setup_says, party_says, progress_says, clear_says, judged, parts_bad, setup_bad, event_read, release_read, body_read, heard_as, whole_read, layout_read, type_read, reads}
+use Rattle.isup_meaning.specs.Reading.{Body, Said, refusal, circuit_in, headed, type_in, fixed_count, has_field, field_pointer, list_pointer, pointed, field_fault, list_fault, optional_fault, nested_fault, body_in, broken, progress_of, backward_isdn, setup_says, party_says, progress_says, clear_says, judged, parts_bad, setup_bad, event_read, release_read, body_read, heard_as, whole_read, layout_read, type_read, reads}
 
 -- the refusals that a reading may give
 abbrev pub Between : Refusal → Type 0

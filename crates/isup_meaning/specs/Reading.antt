@@ -20,7 +20,7 @@ use Rattle.side.specs.declared.kinds.Reason.TheVariants.{Malformed, UnknownType,
 use Rattle.side.specs.declared.kinds.Layer.TheVariants.{NestedList, Message, List as InList}
 use Rattle.side.specs.declared.kinds.Refusal.{Refusal}
 use Rattle.side.specs.Signals.{Contents, Heard, empty}
-use Rattle.carried.specs.Carried.{Five, five_in, parts_of, fault_of, progress_in, tag_place, bad_at, parts_bad_at, sooner}
+use Rattle.carried.specs.Carried.{Five, five_in, parts_of, fault_of, progress_in, tag_place, bad_at, parts_bad_at, sooner, earlier}
 use Rattle.isup_meaning.specs.declared.types.MessageType.{MessageType}
 use Rattle.isup_meaning.specs.declared.types.MessageType.TheVariants as type
 use Rattle.isup_meaning.specs.declared.types.UnknownType.{UnknownType as NoType}
@@ -124,12 +124,6 @@ optional_fault o at =
 abbrev pub nested_fault : ℕ → Result ℕ ListFault → Option Refusal
 nested_fault place (Ok n) = None
 nested_fault place (Err f) = Some (record { reason = Malformed; place = place; system = Isup; layer = NestedList })
-
--- of two refusals the one at the smaller place
-abbrev pub earlier : Option Refusal → Option Refusal → Option Refusal
-earlier None b = b
-earlier (Some a) None = Some a
-earlier (Some a) (Some b) = Some (cond (nat_le a.place b.place) a b)
 
 -- 4. The body: what the pointers reach
 

@@ -22,9 +22,6 @@ impl MessageType {
     pub fn has_field(self) -> bool
         ensures { result ≡ has_field self }
     {
-        matches!(
-            self,
-            MessageType::InitialAddress | MessageType::Release
-        )
+        matches!(self, MessageType::InitialAddress | MessageType::Release)
     }
 }

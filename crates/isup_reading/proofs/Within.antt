@@ -1,9 +1,11 @@
 -- The places that are found in a list lie within it. Assumes nothing.
-use Rattle.std.proofs.Common.{◌≡◌, ℕ, zero, suc, ◌+◌, ◌<◌, Bool, true, false, cond, eqb, ltb, List, [], ◌∷◌, length, take, drop, Some, None, Err, Option, refl, arith}
+use Rattle.std.proofs.Common.{◌≡◌, ℕ, zero, suc, ◌+◌, ◌<◌, ◌≤◌, Bool, true, false, cond, eqb, ltb, List, [], ◌∷◌, length, take, drop, Some, None, Ok, Err, Option, Result, unwrap_or, refl, arith}
+use Rattle.std.specs.Result.{result_err}
 use Rattle.std.specs.Option.{option_map}
 use Rattle.elements.specs.declared.types.EndRule.{EndRule}
 use Rattle.elements.specs.declared.types.Seen.{Seen}
 use Rattle.elements.specs.declared.types.Seen.TheVariants.{Nothing, End, Single, Element, Broken}
+use Rattle.elements.specs.declared.types.ListFault.{ListFault}
 use Rattle.elements.specs.declared.types.ListFault.TheVariants.{BreaksOff}
 use Rattle.elements.specs.Elements.{Item, begun, walk, item_in, place_of, verdict, checked, ran_out_at}
 use Rattle.elements.proofs.Steps.{onward}
@@ -26,8 +28,12 @@ module _ (rule : EndRule) where
       at Broken more f = let i : p ≡ k = grind arith in omega arith
 
   -- an element that breaks off begins within the list
-  pub breaks_within : (xs : List ℕ) (k : ℕ) → checked rule xs ≡ Err (BreaksOff k) → k < length xs
-  breaks_within xs k e = let i = breaks xs 0 0 k e in omega arith
+  pub breaks_within : (xs : List ℕ) (k : ℕ) → Some (BreaksOff k) ≡ result_err (checked rule xs) → k < length xs
+  breaks_within xs k e = let i = breaks xs 0 0 k (is_err (checked rule xs) e) in omega arith
+    where
+      is_err : (r : Result ℕ ListFault) → Some (BreaksOff k) ≡ result_err r → r ≡ Err (BreaksOff k)
+      is_err (Ok n) e = absurd (cc)
+      is_err (Err f) e = cc
 
   module _ (t k : ℕ) where
     pub places : (xs : List ℕ) (skip p : ℕ) → option_map (λ e. e.place) (item_in t (walk rule skip p xs)) ≡ Some k → k < p + length xs
@@ -52,3 +58,11 @@ module _ (rule : EndRule) where
     -- an element that is found begins within the list
     pub place_within : (xs : List ℕ) → place_of rule t xs ≡ Some k → k < length xs
     place_within xs e = let i = places xs 0 0 e in omega arith
+
+  -- and where none is found the place is 0
+  pub place_or_zero : (t : ℕ) (xs : List ℕ) → unwrap_or (place_of rule t xs) 0 ≤ length xs
+  place_or_zero t xs = at (place_of rule t xs) (λ k e. place_within t k xs e)
+    where
+      at : (o : Option ℕ) → ((k : ℕ) → o ≡ Some k → k < length xs) → unwrap_or o 0 ≤ length xs
+      at None h = omega arith
+      at (Some k) h = let i = h k refl in omega arith
