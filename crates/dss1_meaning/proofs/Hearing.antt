@@ -1,18 +1,12 @@
 -- What reading a message of DSS 1 gives: a leg that is there and contents within their limits, or a refusal of the message. Assumes nothing.
-use Rattle.std.proofs.Common.{◌≡◌, ℕ, ◌+◌, ◌/◌, ◌%◌, ◌<◌, ◌≤◌, Bool, true, false, cond, not, ◌&&◌, ◌||◌, eqb, ltb, leb, List, [], ◌∷◌, length, get_or, drop, is_some, is_ok, Some, None, Ok, Err, Option, Result, refl, ap, subst, arith, lit<, lit≤}
-use Rattle.std.proofs.lemmas.Bool.{ltb-true, ltb-false, and_parts, both_ways}
+use Rattle.std.proofs.Common.{◌≡◌, ℕ, ◌+◌, ◌/◌, ◌%◌, ◌<◌, Bool, true, false, cond, not, ◌&&◌, ◌||◌, eqb, ltb, leb, List, [], ◌∷◌, get_or, drop, is_some, Some, None, Ok, Err, Option, Result, refl, ap, subst, arith, lit<, lit≤}
+use Rattle.std.proofs.lemmas.Bool.{ltb-true, and_parts, both_ways}
 use Rattle.elements.specs.declared.types.ListFault.{ListFault}
 use Rattle.elements.specs.Elements.{checked}
 use Rattle.entries.specs.Codings.{dss1}
 use Rattle.values.specs.declared.types.NumberType.{NumberType}
-use Rattle.values.specs.declared.types.Capability.{Capability}
-use Rattle.values.specs.declared.types.BearerFault.{BearerFault}
-use Rattle.values.specs.declared.types.BearerFault.TheVariants.{TooShort, TooLong}
-use Rattle.values.specs.Causes as causes
 use Rattle.values.specs.Causes.{cause_in}
-use Rattle.values.specs.Bearers.{bearer_in, capability_of}
 use Rattle.values.specs.Numbers.{type_of}
-use Rattle.digits.specs.declared.types.DigitFault.{DigitFault}
 use Rattle.digits.specs.Dialling.{dialled, Number}
 use Rattle.side.specs.declared.kinds.Kind.{Kind}
 use Rattle.side.specs.declared.kinds.Kind.TheVariants.{Setup, Complete, Progress, Alerting, Answer, Quiet, Clear}
@@ -21,113 +15,46 @@ use Rattle.side.specs.declared.kinds.System.TheVariants.{Dss1}
 use Rattle.side.specs.declared.kinds.Layer.TheVariants.{List as InList}
 use Rattle.side.specs.declared.kinds.Refusal.{Refusal}
 use Rattle.side.specs.Signals.{Contents, Heard, empty, noted, described}
-use Rattle.side.specs.Meaning.{Within, PartsWithin, bears, reason_number}
-use Rattle.carried.specs.Carried.{fault_of, bad_at, sooner}
+use Rattle.side.specs.Meaning.{Within, bears}
+use Rattle.carried.specs.Carried.{fault_of}
 use Rattle.carried.proofs.Numbers.{text_of_number}
 use Rattle.carried.proofs.PartLaws.{sooner_none, bad_none, parts_bad_none, fault_none}
+use Rattle.carried.proofs.Served.{bearer_good}
+use Rattle.carried.proofs.Withins.{no_parts, plain, quiet_within, setup_fits, progress_fits, clear_fits, cause_in_range, numbered_is, Between, between_is}
 use Rattle.dss1_meaning.specs.declared.types.MessageType.{MessageType}
 use Rattle.dss1_meaning.specs.declared.types.MessageType.TheVariants as type
 use Rattle.dss1_meaning.specs.Dss1 as table
 use Rattle.dss1_meaning.specs.Dss1.{exchange, user, Body, body_in, Said, headed, type_in, named, leg_of, flagged, begins, numbered, number_in, cause_or, setup_says, party_says, progress_says, clear_says, judged, parts_bad, setup_bad, there, setup_read, proceeding_read, progress_read, body_read, heard_as, fault_place, list_read, type_read}
 
-pub no_parts : PartsWithin []
-no_parts = record { calling = []; called = []; low = []; high = []; user = []; are = refl; total = lit≤ tt; few = lit≤ tt }
-
--- a bearer that is served has 2 to 11 octets
-pub bearer_good : (o : List ℕ) → is_ok (bearer_in o) ≡ true → (2 ≤ length o) × (length o ≤ 11) × ((capability : Capability) × (bearer_in o ≡ Ok capability))
-bearer_good o e =
-    let f = only (ltb (length o) 2) (ltb 11 (length o)) (capability_of (get_or o 0 0 % 32)) e in
-    (ltb-false (length o) 2 f.0, ltb-false 11 (length o) f.1, is (bearer_in o) refl e)
-  where
-    only : (a b : Bool) (r : Result Capability BearerFault) → is_ok (cond a (Err TooShort) (cond b (Err TooLong) r)) ≡ true → (a ≡ false) × (b ≡ false)
-    only true b r h = absurd (grind arith)
-    only false true r h = absurd (grind arith)
-    only false false r h = (refl, refl)
-
-    is : (r : Result Capability BearerFault) → bearer_in o ≡ r → is_ok r ≡ true → (capability : Capability) × (bearer_in o ≡ Ok capability)
-    is (Ok v) h i = (v, h)
-    is (Err f) h i = absurd (grind arith)
-
 pub number_good : (o : List ℕ) → is_some (number_in o) ≡ true → (t : NumberType) × ((d : List ℕ) × (number_in o ≡ Some (t, d)) × Number d)
 number_good [] e = absurd (grind arith)
-number_good (a ∷ digits) e = is (type_of (a / 16 % 8)) (dialled digits) refl e
-  where
-    is : (o : Option NumberType) (r : Result (List ℕ) DigitFault) → dialled digits ≡ r → is_some (numbered o r) ≡ true →
-        (t : NumberType) × ((d : List ℕ) × (numbered o r ≡ Some (t, d)) × Number d)
-    is None r h i = absurd (grind arith)
-    is (Some t) (Err f) h i = absurd (grind arith)
-    is (Some t) (Ok d) h i = (t, (d, refl, text_of_number digits d h))
+number_good (a ∷ digits) e =
+    let n = numbered_is (type_of (a / 16 % 8)) (dialled digits) e in
+    (n.0, (n.1.0, n.1.1, text_of_number digits n.1.0 n.1.2))
 
--- a cause as it is read has a location below 16 and a value below 128
-pub cause_within : (o : List ℕ) → (l : ℕ) × ((v : ℕ) × (Some (cause_or (cause_in o)) ≡ Some (l, v)) × (l < 16) × (v < 128))
-cause_within [] = (0, (31, refl, lit< tt, lit< tt))
-cause_within (a ∷ []) = (0, (31, refl, lit< tt, lit< tt))
-cause_within (a ∷ b ∷ []) = at (leb 128 a)
-  where
-    at : (t : Bool) → (l : ℕ) × ((v : ℕ) × (Some (cause_or (cond t (causes.said a b) None)) ≡ Some (l, v)) × (l < 16) × (v < 128))
-    at true = (a % 16, (b % 128, refl, omega arith, omega arith))
-    at false = (0, (31, refl, lit< tt, lit< tt))
-cause_within (a ∷ b ∷ c ∷ rest) = at (leb 128 a)
-  where
-    at : (t : Bool) → (l : ℕ) × ((v : ℕ) × (Some (cause_or (cond t (causes.said a b) (causes.said a c))) ≡ Some (l, v)) × (l < 16) × (v < 128))
-    at true = (a % 16, (b % 128, refl, omega arith, omega arith))
-    at false = (a % 16, (c % 128, refl, omega arith, omega arith))
+-- the cause of a message that ends a call
+pub cause_within : (o : Option (ℕ × ℕ)) → ((c : ℕ × ℕ) → o ≡ Some c → (c.0 < 16) × (c.1 < 128)) → ((cause_or o).0 < 16) × ((cause_or o).1 < 128)
+cause_within None h = (lit< tt, lit< tt)
+cause_within (Some c) h = h c refl
 
 -- contents by kind
 pub setup_within : (b : Body) → setup_bad b ≡ None → Within Setup (setup_says b)
 setup_within b e =
-    let f = sooner_none (bad_at (is_ok (bearer_in b.bearer)) b.bearer_at) (sooner (bad_at (is_some (number_in b.number)) b.number_at) (parts_bad b)) e in
-    let g = sooner_none (bad_at (is_some (number_in b.number)) b.number_at) (parts_bad b) f.1 in
-    let bearer = bearer_good b.bearer (bad_none (is_ok (bearer_in b.bearer)) b.bearer_at f.0) in
-    let digits = number_good b.number (bad_none (is_some (number_in b.number)) b.number_at g.0) in
-    record {
-      parts = fault_none b.parts (parts_bad_none (fault_of b.parts) b.user_at g.1);
-      bare = λ z. absurd (grind arith);
-      bearer = λ _. (bearer.0, bearer.1);
-      number = λ _. digits;
-      noted = λ z. absurd (grind arith);
-      cause = λ z. absurd (grind arith);
-    }
-
--- the kinds of which nothing is asked but their parts
-pub plain : (k : Kind) (c : Contents) → PartsWithin c.parts → (bears k ≡ false → c.parts ≡ []) → (k ≡ Setup → ⊥) → (k ≡ Progress → ⊥) → (k ≡ Clear → ⊥) → Within k c
-plain k c p bare s g t = record {
-  parts = p;
-  bare = bare;
-  bearer = λ e. absurd (s e);
-  number = λ e. absurd (s e);
-  noted = λ e. absurd (g e);
-  cause = λ e. absurd (t e);
-}
+    let f = sooner_none _ _ e in
+    let g = sooner_none _ _ f.1 in
+    setup_fits (setup_says b) (fault_none b.parts (parts_bad_none _ _ g.1)) (bearer_good b.bearer (bad_none _ _ f.0)) (number_good b.number (bad_none _ _ g.0))
 
 pub party_within : (k : Kind) (b : Body) → fault_of b.parts ≡ None → (bears k ≡ true) → (k ≡ Setup → ⊥) → (k ≡ Clear → ⊥) → Within k (party_says b)
 party_within k b e h s t = plain k (party_says b) (fault_none b.parts e) (λ z. absurd (both_ways (bears k) z h)) s (λ z. absurd (both_ways (bears k) (ap bears z) h)) t
-
-pub quiet_within : Within Quiet empty
-quiet_within = plain Quiet empty no_parts (λ _. refl) (λ z. grind arith) (λ z. grind arith) (λ z. grind arith)
 
 pub complete_within : (p : Option (ℕ × ℕ)) → Within Complete (progress_says p)
 complete_within p = plain Complete (progress_says p) no_parts (λ _. refl) (λ z. grind arith) (λ z. grind arith) (λ z. grind arith)
 
 pub progress_within : (p : ℕ × ℕ) → Within Progress (progress_says (Some p))
-progress_within p = record {
-  parts = no_parts;
-  bare = λ _. refl;
-  bearer = λ e. absurd (grind arith);
-  number = λ e. absurd (grind arith);
-  noted = λ _. (p.0, (p.1, refl));
-  cause = λ e. absurd (grind arith);
-}
+progress_within p = progress_fits (progress_says (Some p)) p refl refl
 
 pub clear_within : (b : Body) → fault_of b.parts ≡ None → Within Clear (clear_says b)
-clear_within b e = record {
-  parts = fault_none b.parts e;
-  bare = λ z. absurd (grind arith);
-  bearer = λ z. absurd (grind arith);
-  number = λ z. absurd (grind arith);
-  noted = λ z. absurd (grind arith);
-  cause = λ _. cause_within b.cause;
-}
+clear_within b e = clear_fits (clear_says b) (cause_or (cause_in b.cause)) (fault_none b.parts e) refl (cause_within (cause_in b.cause) (cause_in_range b.cause))
 
 -- what is said of a message that is read
 abbrev pub SaidWithin : Said → Type 0
@@ -218,12 +145,9 @@ module _ (n : ℕ) (o : List ℕ) (h : Heard) where
       at false z = absurd (grind arith)
 
 -- the refusals that a reading may give
-abbrev pub Between : Refusal → Type 0
-Between e = (2 ≤ reason_number e.reason) × (reason_number e.reason ≤ 6)
-
 module _ (e : Refusal) where
   given : (r : Refusal) → r ≡ e → Between r → Between e
-  given r z h = subst Between z h
+  given r = between_is r e
 
   judged_out : (bad : Option ℕ) (k : Kind) (c : Contents) → judged bad k c ≡ Err e → Between e
   judged_out None k c z = absurd (grind arith)

@@ -55,6 +55,10 @@ said l Quiet es h e = grind arith
 said l Clear es h e = grind arith
 said l Down es h e = grind arith
 
+-- and the end of a call always is
+pub clear_said : (l : ℕ) (es : List Entry) → told_octets l (told_type Clear) es ≡ [] → ⊥
+clear_said l es e = grind arith
+
 -- the meaning of DSS 1: at most 64 legs, of which the exchange may call the upper half; every part is carried
 abbrev pub meaning_of_dss1 : Meaning Dss1Record
 meaning_of_dss1 = record {
@@ -83,6 +87,6 @@ meaning_of_dss1 = record {
   tell_short = λ l p k c w. told_short l (told_type k) (told_elements k c) (told_fits k c w);
   far_clear = λ l p k c w h s. (told_far l p k c w h).0;
   far_parts = λ l p k c w h s. (told_far l p k c w h).1 ∙ sym (keep_within c.parts w.parts);
-  clear_said = λ l p c h e. absurd (grind arith);
+  clear_said = λ l p c h e. clear_said l (told_elements Clear c) e;
   part_said = λ l p k c t e f h z. said l k (told_elements k c) f z;
 }

@@ -29,7 +29,8 @@ use Rattle.dss1_meaning.specs.declared.types.MessageType.TheVariants as type
 use Rattle.dss1_meaning.specs.Dss1.{user, Body, body_in, Said, headed, type_in, type_octet, begins, named, reference_to, callable, numbered, number_in, number_octets, setup_says, party_says, progress_says, clear_says, judged, parts_bad, setup_bad, there, setup_read, proceeding_read, progress_read, body_read, heard_as, list_read, type_read, reads_at, head, table, or_noted, told_elements, tells, far_of, far}
 use Rattle.dss1_meaning.specs.Dss1 as system
 use Rattle.dss1_meaning.proofs.Legs.{named_in_call, named_to_begin}
-use Rattle.dss1_meaning.proofs.Hearing.{no_parts, says}
+use Rattle.carried.proofs.Withins.{no_parts, progress_short, cause_short}
+use Rattle.dss1_meaning.proofs.Hearing.{says}
 
 -- a table that is written whole: its tags ascend, and with a head it fits 255 octets
 pub record Fits (es : List Entry) : Type 0 where
@@ -105,15 +106,7 @@ module _ (b cs pr nm : List ℕ) (ps : List Part) (w : PartsWithin ps) where
           sum (weight (length b)) (weight (length cs)) (weight (length pr)) (weight (length (part_at 0x6D ps))) (weight (length nm)) (weight (length (part_at 0x71 ps))) (weight (length (part_at 0x7C ps))) (weight (length (part_at 0x7D ps))) (weight (length (part_at 0x7E ps)))
           (omega arith) (omega arith) (omega arith) (omega arith) (within_weights ps w)
 
--- progress takes two octets or none, a cause two, a number its digits and one more
-progress_short : (o : Option (ℕ × ℕ)) → length (progress_octets o) ≤ 2
-progress_short None = lit≤ tt
-progress_short (Some p) = lit≤ tt
-
-cause_short : (o : Option (ℕ × ℕ)) → length (cause_octets o) ≤ 2
-cause_short None = lit≤ tt
-cause_short (Some c) = lit≤ tt
-
+-- a number takes its digits and one octet more
 number_short : (o : Option (NumberType × List ℕ)) (t : NumberType) (d : List ℕ) → o ≡ Some (t, d) → Number d → length (number_octets o) ≤ 21
 number_short o t d e h = subst (λ n. length (number_octets n) ≤ 21) (sym e) (let k = h.1 in omega arith)
 

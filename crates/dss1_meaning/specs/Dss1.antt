@@ -1,6 +1,6 @@
 -- The messages of DSS 1: what is read, what is refused and where, what is written, what is kept.
 -- Rests on element lists, on the values inside elements, on the kinds and on the table of phases.
-use Rattle.std.specs.Prelude.{◌≡◌, ℕ, ◌+◌, ◌-◌, ◌*◌, ◌/◌, ◌%◌, ◌<◌, Bool, true, false, cond, not, ◌&&◌, ◌||◌, List, [], ◌∷◌, ◌++◌, length, drop, is_some, is_ok, Some, None, Ok, Err, Option, Result, ◌==◌, nat_le, nat_lt, slice_index}
+use Rattle.std.specs.Prelude.{◌≡◌, ℕ, ◌+◌, ◌-◌, ◌*◌, ◌/◌, ◌%◌, ◌<◌, Bool, true, false, cond, not, ◌&&◌, ◌||◌, List, [], ◌∷◌, ◌++◌, length, drop, is_some, is_ok, ok_or, Some, None, Ok, Err, Option, Result, ◌==◌, nat_le, nat_lt, slice_index}
 use Rattle.elements.specs.declared.types.ListFault.{ListFault}
 use Rattle.elements.specs.declared.types.ListFault.TheVariants.{BreaksOff, NoEnd}
 use Rattle.elements.specs.Elements.{checked}
@@ -10,7 +10,6 @@ use Rattle.values.specs.declared.types.NumberType.{NumberType}
 use Rattle.values.specs.Causes.{cause_in}
 use Rattle.values.specs.Bearers.{bearer_in}
 use Rattle.values.specs.Numbers.{code_of, type_of}
-use Rattle.digits.specs.declared.types.DigitFault.{DigitFault}
 use Rattle.digits.specs.Dialling.{dialled}
 use Rattle.side.specs.declared.kinds.Kind.{Kind}
 use Rattle.side.specs.declared.kinds.Kind.TheVariants.{Setup, Complete, Progress, Alerting, Answer, Quiet, Clear, Down}
@@ -27,8 +26,10 @@ use Rattle.side.specs.Signals.{Contents, Heard, empty, noted, described}
 use Rattle.side.specs.Meaning.{Turn, Far}
 use Rattle.side.specs.declared.records.Dss1Record.{Dss1Record}
 use Rattle.carried.specs.Carried.{Five, five_in, parts_of, fault_of, part_at, progress_octets, cause_octets, tag_place, bad_at, parts_bad_at, sooner, told_bearer}
+pub use Rattle.carried.specs.Messages.{Said, numbered, there}
 use Rattle.dss1_meaning.specs.declared.types.MessageType.{MessageType}
 use Rattle.dss1_meaning.specs.declared.types.MessageType.TheVariants as type
+use Rattle.dss1_meaning.specs.declared.types.UnknownType.{UnknownType as UnknownOctet}
 
 abbrev pub refusal : Reason → ℕ → Refusal
 refusal r p = record { reason = r; place = p; system = Dss1; layer = Message }
@@ -60,6 +61,10 @@ type_octet type.ConnectAcknowledge = 0x0F
 type_octet type.Disconnect = 0x45
 type_octet type.Release = 0x4D
 type_octet type.ReleaseComplete = 0x5A
+
+-- the type that an octet stands for, or the octet that stands for none
+abbrev pub type_or_unknown : ℕ → Result MessageType UnknownOctet
+type_or_unknown t = ok_or (type_in t) (record { 0 = t })
 
 -- which end reads a message: the exchange's or the user's
 pub data End : Type 0 where
@@ -126,11 +131,6 @@ body_in x = record {
 }
 
 -- a called number: bits 7 to 5 of the first octet are its type, the digits follow
-abbrev pub numbered : Option NumberType → Result (List ℕ) DigitFault → Option (NumberType × List ℕ)
-numbered None r = None
-numbered (Some t) (Err f) = None
-numbered (Some t) (Ok d) = Some (t, d)
-
 abbrev pub number_in : List ℕ → Option (NumberType × List ℕ)
 number_in [] = None
 number_in (a ∷ digits) = numbered (type_of (a / 16 % 8)) (dialled digits)
@@ -139,11 +139,6 @@ number_in (a ∷ digits) = numbered (type_of (a / 16 % 8)) (dialled digits)
 abbrev pub cause_or : Option (ℕ × ℕ) → ℕ × ℕ
 cause_or None = (0, 31)
 cause_or (Some c) = c
-
--- what a message says
-pub record Said : Type 0 where
-  pub kind : Kind
-  pub contents : Contents
 
 -- contents; origin and access are ISDN
 abbrev pub setup_says : Body → Contents
@@ -168,9 +163,6 @@ parts_bad b = parts_bad_at (fault_of b.parts) b.user_at
 
 abbrev pub setup_bad : Body → Option ℕ
 setup_bad b = sooner (bad_at (is_ok (bearer_in b.bearer)) b.bearer_at) (sooner (bad_at (is_some (number_in b.number)) b.number_at) (parts_bad b))
-
-abbrev pub there : List ℕ → Bool
-there contents = nat_lt 0 (length contents)
 
 -- a setup needs a bearer and a number
 abbrev pub setup_read : Body → Result Said Refusal

@@ -2,8 +2,6 @@
 ghost use Rattle.dss1_meaning.specs.Dss1.{ReferencesNameLegs};
 
 /// A reference means one leg, the same at both ends.
-pub fn references_name_legs() -> u8
+pub fn references_name_legs()
     ensures { ReferencesNameLegs }
-{
-    0
-}
+{}

@@ -19,8 +19,6 @@ pub fn entry<'a>(tag: u8, contents: &'a [u8]) -> Item<'a>
 }
 
 /// Every table whose tags ascend reads back: under each tag its contents, and the list is whole.
-pub fn entries_read_back() -> u8
+pub fn entries_read_back()
     ensures { EntriesReadBack }
-{
-    0
-}
+{}
