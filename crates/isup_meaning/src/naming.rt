@@ -1,6 +1,6 @@
 //! The octets of the types of message.
 ghost use Rattle.std.specs.Prelude.{◌≡◌, ℕ};
-ghost use Rattle.isup_meaning.specs.Reading.{TypeRead, type_octet};
+ghost use Rattle.isup_meaning.specs.Reading.{type_or_unknown, type_octet};
 
 use crate::types::{MessageType, UnknownType};
 
@@ -8,7 +8,7 @@ use crate::types::{MessageType, UnknownType};
 impl TryFrom<u8> for MessageType {
     type Error = UnknownType;
 
-    ghost try_from_gives = { TypeRead };
+    ghost try_from_gives = { λ octet result. result ≡ type_or_unknown octet };
 
     fn try_from(octet: u8) -> Result<MessageType, UnknownType> {
         match octet {

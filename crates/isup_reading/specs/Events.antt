@@ -1,5 +1,5 @@
 -- The events of call progress and their octets. Rests on nothing.
-use Rattle.std.specs.Prelude.{◌≡◌, ℕ, cond, Some, None, Option, Result, MatchResult, ◌==◌}
+use Rattle.std.specs.Prelude.{ℕ, cond, Some, None, Option, Result, ok_or, ◌==◌}
 use Rattle.isup_reading.specs.declared.codes.Event.{Event}
 use Rattle.isup_reading.specs.declared.codes.Event.TheVariants.{Alerting, Progress, InBand}
 use Rattle.isup_reading.specs.declared.codes.UnknownEvent.{UnknownEvent}
@@ -12,6 +12,6 @@ event_octet InBand = 0x03
 abbrev pub event_in : ℕ → Option Event
 event_in n = cond (n == 0x01) (Some Alerting) (cond (n == 0x02) (Some Progress) (cond (n == 0x03) (Some InBand) None))
 
--- an event is the one that an octet stands for, or the octet stands for none
-abbrev pub EventRead : ℕ → Result Event UnknownEvent → Type 0
-EventRead octet r = MatchResult r (λ e. Some e ≡ event_in octet) (λ u. (None ≡ event_in octet) × (u.0 ≡ octet))
+-- the event that an octet stands for, or the octet that stands for none
+abbrev pub event_or_unknown : ℕ → Result Event UnknownEvent
+event_or_unknown n = ok_or (event_in n) (record { 0 = n })

@@ -1,6 +1,6 @@
 //! The tags of the optional list and the events of call progress, read and written alike.
 ghost use Rattle.std.specs.Prelude.{◌≡◌, ℕ};
-ghost use Rattle.isup_reading.specs.Events.{EventRead, event_octet};
+ghost use Rattle.isup_reading.specs.Events.{event_or_unknown, event_octet};
 
 use std::error::Error;
 use std::fmt;
@@ -40,7 +40,7 @@ impl Event {
 impl TryFrom<u8> for Event {
     type Error = UnknownEvent;
 
-    ghost try_from_gives = { EventRead };
+    ghost try_from_gives = { λ octet result. result ≡ event_or_unknown octet };
 
     fn try_from(octet: u8) -> Result<Event, UnknownEvent> {
         match octet {
