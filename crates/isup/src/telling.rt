@@ -77,6 +77,7 @@ pub fn take(
     };
     match write_reply(reading.leg, reading.heard, reply) {
         Ok(count) => Ok((after, count)),
+        // The row was asked with the buffer's length, and 256 octets hold every message.
         Err(_) => unreachable(),
     }
 }
@@ -165,6 +166,7 @@ pub fn tell(
     };
     match write_signal(leg, is_completed(before.phase), signal, message) {
         Ok(count) => Ok((after, count)),
+        // The row was asked with the buffer's length, and 256 octets hold every message.
         Err(_) => unreachable(),
     }
 }

@@ -16,6 +16,9 @@ use Rattle.isup_meaning.specs.declared.types.MessageType.{MessageType}
 use Rattle.isup_meaning.specs.declared.types.MessageType.TheVariants as type
 use Rattle.isup_meaning.specs.Reading.{Body, Said, refusal, circuit_in, headed, type_in, fixed_count, has_field, field_pointer, list_pointer, pointed, field_fault, list_fault, optional_fault, nested_fault, body_in, broken, progress_of, backward_isdn, setup_says, party_says, progress_says, clear_says, judged, parts_bad, setup_bad, event_read, release_read, body_read, heard_as, whole_read, layout_read, type_read, reads}
 
+some_between : (r e : Refusal) → Some r ≡ Some e → Between r → Between e
+some_between r e i h = between_is r e (grind arith) h
+
 -- what is broken
 pub field_out : (o : List ℕ) (at : ℕ) (e : Refusal) → field_fault o at ≡ Some e → Between e
 field_out o at e z = by (ltb at (length o)) (eqb (get_or o at 0) 0) (leb (pointed o at + 1 + get_or o (pointed o at) 0) (length o)) z
@@ -28,14 +31,8 @@ field_out o at e z = by (ltb at (length o)) (eqb (get_or o at 0) 0) (leb (pointe
 
 pub list_out : (at start : ℕ) (r : Result ℕ ListFault) (e : Refusal) → list_fault at start r ≡ Some e → Between e
 list_out at start (Ok n) e z = absurd (grind arith)
-list_out at start (Err (BreaksOff p)) e z = let i : list_fault at start (Err (BreaksOff p)) ≡ Some e = z in by _ e i (lit≤ tt, lit≤ tt)
-  where
-    by : (r e : Refusal) → Some r ≡ Some e → Between r → Between e
-    by r e i h = between_is r e (grind arith) h
-list_out at start (Err (NoEnd p)) e z = let i : list_fault at start (Err (NoEnd p)) ≡ Some e = z in by _ e i (lit≤ tt, lit≤ tt)
-  where
-    by : (r e : Refusal) → Some r ≡ Some e → Between r → Between e
-    by r e i h = between_is r e (grind arith) h
+list_out at start (Err (BreaksOff p)) e z = let i : list_fault at start (Err (BreaksOff p)) ≡ Some e = z in some_between _ e i (lit≤ tt, lit≤ tt)
+list_out at start (Err (NoEnd p)) e z = let i : list_fault at start (Err (NoEnd p)) ≡ Some e = z in some_between _ e i (lit≤ tt, lit≤ tt)
 
 pub optional_out : (o : List ℕ) (at : ℕ) (e : Refusal) → optional_fault o at ≡ Some e → Between e
 optional_out o at e z = by (ltb at (length o)) (eqb (get_or o at 0) 0) (checked isup (drop (pointed o at) o)) z
@@ -47,10 +44,7 @@ optional_out o at e z = by (ltb at (length o)) (eqb (get_or o at 0) 0) (checked 
 
 pub nested_out : (place : ℕ) (r : Result ℕ ListFault) (e : Refusal) → nested_fault place r ≡ Some e → Between e
 nested_out place (Ok n) e z = absurd (grind arith)
-nested_out place (Err f) e z = by _ e z (lit≤ tt, lit≤ tt)
-  where
-    by : (r e : Refusal) → Some r ≡ Some e → Between r → Between e
-    by r e i h = between_is r e (grind arith) h
+nested_out place (Err f) e z = some_between _ e z (lit≤ tt, lit≤ tt)
 
 pub earlier_out : (a b : Option Refusal) (e : Refusal) → ((x : Refusal) → a ≡ Some x → Between x) → ((x : Refusal) → b ≡ Some x → Between x) → earlier a b ≡ Some e → Between e
 earlier_out None b e p q z = q e z

@@ -61,11 +61,13 @@ impl<'a> Tagged<'a> {
     fn nested_fault(self) -> Option<Refusal>
         ensures { result ≡ nested_fault self.entry.place (checked dss1 self.entry.contents.now) }
     {
-        let _ = elements::check::<Dss1>(self.contents).err()?;
-        Some(Refusal {
+        let malformed = Refusal {
             layer: Layer::NestedList,
             ..refuse(Reason::Malformed, self.place)
-        })
+        };
+        elements::check::<Dss1>(self.contents)
+            .is_err()
+            .then_some(malformed)
     }
 }
 

@@ -134,16 +134,14 @@ fn setup(body: Body<'_>) -> Result<Signal, Refusal>
 fn alerting(body: Body<'_>, isdn: bool) -> Result<Signal, Refusal>
     ensures { signal_as result ≡ judged (parts_bad (body_of body.entry)) kind.Alerting (party_says isdn (body_of body.entry)) }
 {
-    let parts = parts(body)?;
-    Ok(Signal::Alerting(progress(body), isdn, parts))
+    Ok(Signal::Alerting(progress(body), isdn, parts(body)?))
 }
 
 /// What a message says by which the called party answers.
 fn answer(body: Body<'_>, isdn: bool) -> Result<Signal, Refusal>
     ensures { signal_as result ≡ judged (parts_bad (body_of body.entry)) kind.Answer (party_says isdn (body_of body.entry)) }
 {
-    let parts = parts(body)?;
-    Ok(Signal::Answer(progress(body), isdn, parts))
+    Ok(Signal::Answer(progress(body), isdn, parts(body)?))
 }
 
 /// Progress in access transport.
