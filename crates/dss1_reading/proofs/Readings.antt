@@ -1,56 +1,97 @@
 -- What the readers of a message make of its parts. Assumes nothing.
-use Rattle.std.proofs.Common.{◌≡◌, ℕ, ◌-◌, ◌/◌, ◌%◌, ◌<◌, ◌≤◌, Bool, true, false, cond, ◌&&◌, eqb, ltb, List, [], ◌∷◌, length, get_or, take, drop, Some, None, Ok, Err, Option, Result, sym, refl, ap, ◌∙◌, arith}
+use Rattle.std.proofs.Common.{◌≡◌, ℕ, ◌-◌, ◌<◌, Bool, true, false, cond, ◌&&◌, eqb, List, length, get_or, take, drop, is_some, is_ok, IfOk, MatchResult, MatchOption, Some, None, Ok, Err, Option, Result, sym, refl, ap, ◌∙◌, arith}
 use Rattle.std.proofs.lemmas.List.{take_rest}
-use Rattle.std.proofs.lemmas.Bool.{cond-true, cond-false, lt-ltb, eqb-false}
-use Rattle.values.specs.declared.types.NumberType.{NumberType}
-use Rattle.values.specs.Numbers.{type_of}
-use Rattle.digits.specs.declared.types.DigitFault.{DigitFault}
-use Rattle.digits.specs.Dialling.{dialled}
+use Rattle.std.proofs.lemmas.Bool.{cond-true, lt-ltb, eqb-false}
+use Rattle.std.proofs.lemmas.Result.{IfOk-at_ok}
+use Rattle.std.specs.Option.{option_map, ok_or}
+use Rattle.std.specs.Result.{result_ok}
+use Rattle.values.specs.declared.types.BearerFault.{BearerFault}
+use Rattle.values.specs.Bearers.{bearer_in}
 use Rattle.elements.specs.declared.types.ListFault.{ListFault}
 use Rattle.elements.specs.Elements.{checked}
 use Rattle.entries.specs.Codings.{dss1}
-use Rattle.carried.specs.Carried.{sooner}
-use Rattle.side.specs.declared.kinds.Refusal.{Refusal}
-use Rattle.side.specs.declared.kinds.Reason.TheVariants.{BadValue, NoSuchLeg}
+use Rattle.side.specs.declared.kinds.Kind.{Kind}
 use Rattle.side.specs.declared.kinds.Kind.TheVariants as kind
+use Rattle.side.specs.declared.kinds.Refusal.{Refusal}
+use Rattle.side.specs.declared.kinds.Reason.TheVariants.{BadValue}
+use Rattle.side.specs.declared.contents.Bearer.{Bearer}
+use Rattle.side.specs.declared.contents.Number.{Number}
+use Rattle.side.specs.declared.parts.Parts.{Parts}
+use Rattle.side.specs.Contents as side
+use Rattle.side.specs.Signals.{Contents, bearer_of, noted}
+use Rattle.side.proofs.Limited.{bearer_served}
+use Rattle.carried.specs.Carried.{parts_of, bad_at, both, refused}
+use Rattle.carried.specs.Messages.{Said, number_of}
+use Rattle.carried.proofs.Refusals.{both_refused_at, both_ok}
 use Rattle.dss1_meaning.specs.declared.types.MessageType.{MessageType}
-use Rattle.dss1_meaning.specs.Dss1.{refusal, headed, type_in, exchange, named, Body, body_in, numbered, number_in, Said, setup_says, setup_bad, setup_read, judged, body_read, heard_as, list_read, type_read, reads}
+use Rattle.dss1_meaning.specs.declared.types.UnknownType.{UnknownType}
+use Rattle.dss1_meaning.specs.Dss1.{refusal, headed, type_in, exchange, named, Body, body_in, number_in, parts_bad, setup_says, setup_bad, setup_read, judged, body_read, heard_as, list_read, type_read, reads}
 use Rattle.dss1_reading.specs.Reads.{list_fault}
 
--- a called number from its type and what its digits are
-pub number_read : (xs : List ℕ) (t : NumberType) (r : Result (List ℕ) DigitFault) → 1 ≤ length xs → Some t ≡ type_of (get_or xs 0 0 / 16 % 8) → r ≡ dialled (take (length xs - 1) (drop 1 xs)) →
-    numbered (Some t) r ≡ number_in xs
-number_read [] t r h e d = absurd (omega arith)
-number_read (a ∷ xs) t r h e d = let k : r ≡ dialled xs = d ∙ ap dialled (take_rest (a ∷ xs) 1) in λ i. numbered (e i) (k i)
+-- a bearer that is read is one that is served
+pub bearer_read : (o : List ℕ) (r : Result Bearer BearerFault) → MatchResult r (λ b. bearer_of b ≡ o) (λ e. bearer_in o ≡ Err e) → MatchOption (result_ok r) (is_ok (bearer_in o) ≡ false) (λ _. is_ok (bearer_in o) ≡ true)
+bearer_read o (Ok b) h = ap (λ x. is_ok (bearer_in x)) (sym h) ∙ ap is_ok (bearer_served b)
+bearer_read o (Err e) h = ap is_ok h
 
 -- contents that are not empty
 pub filled : (xs ys : List ℕ) → false ≡ eqb (length xs) 0 → xs ≡ ys → 0 < length ys
 filled xs ys h e = let k : length xs ≡ 0 → ⊥ = λ z. eqb-false (length xs) 0 (sym h) z in omega (arith, ap length e)
 
--- the first of three places, from those that were found
-pub first_place : {a b c x y z w o : Option ℕ} → o ≡ sooner x w → w ≡ sooner y z → x ≡ a → y ≡ b → z ≡ c → o ≡ sooner a (sooner b c)
-first_place e f p q r = e ∙ (λ i. sooner (p i) ((f ∙ (λ j. sooner (q j) (r j))) i))
+-- a message that is judged by what stands against its values
+pub judged_refused : (o : Option ℕ) (k : Kind) (c : Contents) (e : Refusal) → Some e ≡ option_map (refusal BadValue) o → Err e ≡ judged o k c
+judged_refused None k c e h = absurd (grind arith)
+judged_refused (Some p) k c e h = grind arith
 
--- a setup with a value outside its rule
-pub setup_refused : (b : Body) (p : ℕ) → 0 < length b.bearer → 0 < length b.number → Some p ≡ setup_bad b → Err (refusal BadValue p) ≡ setup_read b
-setup_refused b p h k e =
-    let f : (ltb 0 (length b.bearer) && ltb 0 (length b.number)) ≡ true = λ i. lt-ltb 0 (length b.bearer) h i && lt-ltb 0 (length b.number) k i in
-    sym (cond-true _ _ _ f ∙ ap (λ o. judged o kind.Setup (setup_says b)) (sym e))
+pub judged_said : (o : Option ℕ) (k : Kind) (c d : Contents) → None ≡ option_map (refusal BadValue) o → c ≡ d → Ok (record { kind = k; contents = c }) ≡ judged o k d
+judged_said None k c d h e = ap (λ x. Ok (record { kind = k; contents = x })) e
+judged_said (Some p) k c d h e = absurd (grind arith)
+
+-- a setup whose bearer and number are there
+module _ (b : Body) (x : Result Bearer Refusal) (n : Result Number Refusal) (p : Result Parts Refusal)
+    (inner : Result (Number × Parts) Refusal) (is-inner : inner ≡ both n p)
+    (bearer-there : 0 < length b.bearer) (number_there : 0 < length b.number)
+    (bad-x : refused x ≡ option_map (refusal BadValue) (bad_at (is_ok (bearer_in b.bearer)) b.bearer_at))
+    (bad-n : refused n ≡ option_map (refusal BadValue) (bad_at (is_some (number_in b.number)) b.number_at))
+    (bad-p : refused p ≡ option_map (refusal BadValue) (parts_bad b)) where
+  bad : refused (both x inner) ≡ option_map (refusal BadValue) (setup_bad b)
+  bad =
+      both_refused_at (refusal BadValue) (λ q. refl) x inner _ _ bad-x
+      (ap refused is-inner ∙ both_refused_at (refusal BadValue) (λ q. refl) n p _ _ bad-n bad-p)
+
+  head : setup_read b ≡ judged (setup_bad b) kind.Setup (setup_says b)
+  head = cond-true _ _ _ (λ i. lt-ltb 0 (length b.bearer) bearer-there i && lt-ltb 0 (length b.number) number_there i)
+
+  -- with a value outside its rule
+  pub setup_refused : (e : Refusal) → Err e ≡ both x inner → Err e ≡ setup_read b
+  setup_refused e h = judged_refused (setup_bad b) kind.Setup (setup_says b) e (ap refused h ∙ bad) ∙ sym head
+
+  -- with every value in its rule
+  module _ (value-x : IfOk x (λ v. bearer_of v ≡ b.bearer)) (value-n : IfOk n (λ v. Some (number_of v) ≡ number_in b.number)) (value-p : IfOk p (λ v. side.parts_of v ≡ parts_of b.parts))
+      (v : Bearer × (Number × Parts)) (e : Ok v ≡ both x inner) (progress : Option (ℕ × ℕ)) (progress-is : progress ≡ noted b.progress) where
+    pub setup_said :
+        Ok (record { kind = kind.Setup; contents = record { bearer = bearer_of v.0; number = Some (number_of v.1.0); progress = progress; cause = None; isdn = true; parts = side.parts_of v.1.1 } }) ≡ setup_read b
+    setup_said =
+        let one = both_ok x inner v e in
+        let two = both_ok n p v.1 (sym one.1 ∙ is-inner) in
+        let X = IfOk-at_ok (λ v. bearer_of v ≡ b.bearer) one.0 value-x in
+        let N = IfOk-at_ok (λ v. Some (number_of v) ≡ number_in b.number) two.0 value-n in
+        let P = IfOk-at_ok (λ v. side.parts_of v ≡ parts_of b.parts) two.1 value-p in
+        judged_said (setup_bad b) kind.Setup _ (setup_says b) (ap refused e ∙ bad)
+        (λ i. record { bearer = X i; number = N i; progress = progress-is i; cause = None; isdn = true; parts = P i }) ∙ sym head
+
+-- a type that was found
+pub type_found : (o : Option MessageType) (t : MessageType) (u : UnknownType) → Ok t ≡ ok_or o u → Some t ≡ o
+type_found None t u e = absurd (grind arith)
+type_found (Some s) t u e = grind arith
 
 -- what a leg that was looked for says of the reference
 pub leg_found : (b : Bool) (l x : ℕ) → Some l ≡ cond b (Some x) None → (b ≡ true) × (l ≡ x)
 leg_found b l x e = (grind arith, grind arith)
 
-pub leg_missing : (b : Bool) (x : ℕ) → None ≡ cond b (Some x) None → b ≡ false
-leg_missing b x e = grind arith
-
 -- a message whose head and type are read
 module _ (n : ℕ) (o : List ℕ) (t : MessageType) (h : true ≡ headed o) (e : Some t ≡ type_in (get_or o 3 0)) where
   typed : type_read exchange n o (Some t) ≡ reads n o
   typed = ap (type_read exchange n o) e ∙ sym (cond-true _ _ _ (sym h))
-
-  pub no_leg : named exchange n t (get_or o 2 0) ≡ false → Err (refusal NoSuchLeg 2) ≡ reads n o
-  no_leg f = sym (cond-false _ _ _ f) ∙ typed
 
   -- and whose reference names a leg
   module _ (f : named exchange n t (get_or o 2 0) ≡ true) where
@@ -59,13 +100,6 @@ module _ (n : ℕ) (o : List ℕ) (t : MessageType) (h : true ≡ headed o) (e :
 
     whole : checked dss1 (take (length o - 4) (drop 4 o)) ≡ checked dss1 (drop 4 o)
     whole = ap (checked dss1) (take_rest o 4)
-
-    pub list_refused : (r : Refusal) → Some r ≡ list_fault (checked dss1 (take (length o - 4) (drop 4 o))) → Err r ≡ reads n o
-    list_refused r g = by (checked dss1 (drop 4 o)) (g ∙ ap list_fault whole) ∙ listed
-      where
-        by : (c : Result ℕ ListFault) → Some r ≡ list_fault c → Err r ≡ list_read exchange o t c
-        by (Ok m) z = absurd (grind arith)
-        by (Err f) z = grind arith
 
     pub body_read_is : (s : Result Said Refusal) → None ≡ list_fault (checked dss1 (take (length o - 4) (drop 4 o))) → s ≡ body_read t (body_in (take (length o - 4) (drop 4 o))) → heard_as exchange o s ≡ reads n o
     body_read_is s g q = ap (heard_as exchange o) (q ∙ ap (λ l. body_read t (body_in l)) (take_rest o 4)) ∙ by (checked dss1 (drop 4 o)) (g ∙ ap list_fault whole) ∙ listed

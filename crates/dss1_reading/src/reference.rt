@@ -15,10 +15,7 @@ const MOST: u8 = 32;
 fn begins_call(message: MessageType) -> bool
     ensures { result ≡ begins message }
 {
-    match message {
-        MessageType::Setup => true,
-        _ => false,
-    }
+    message == MessageType::Setup
 }
 
 /// The number of a leg: those that the user began come first.
@@ -28,9 +25,9 @@ fn number_of(reference: u8) -> usize
     ensures is { result ≡ leg_of exchange reference }
     ensures few { result < 64 }
 {
-    let place = (reference % FLAG - 1) as usize;
+    let place = usize::from(reference % FLAG - 1);
     if reference >= FLAG {
-        place + MOST as usize
+        place + usize::from(MOST)
     } else {
         place
     }
@@ -41,10 +38,7 @@ pub fn leg_of(reference: u8, message: MessageType, legs: usize) -> Option<Leg>
     ensures { option_map (λ l. l.number) result ≡ (if named exchange legs message reference then Some (leg_of exchange reference) else None) }
 {
     let value = reference % FLAG;
-    if value < 1 || value > MOST {
-        return None;
-    }
-    if begins_call(message) && reference >= FLAG {
+    if !(1..=MOST).contains(&value) || begins_call(message) && reference >= FLAG {
         return None;
     }
     Leg::among(number_of(reference), legs)
