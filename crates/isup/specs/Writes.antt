@@ -1,11 +1,11 @@
 -- What the code writes, from the values that it holds.
 -- Rests on tables of elements and on the tables of the messages.
-use Rattle.std.specs.Prelude.{◌≡◌, ℕ, ◌+◌, Bool, ◌&&◌, List, [], ◌∷◌, ◌++◌, length, take, ◌==◌}
+use Rattle.std.specs.Prelude.{◌≡◌, ℕ, ◌+◌, ◌<◌, Bool, ◌&&◌, List, [], ◌∷◌, ◌++◌, length, Result, MatchResult, ◌==◌}
 use Rattle.entries.specs.Entries.{Entry, listed}
 use Rattle.side.specs.declared.parts.Parts.{Parts}
 use Rattle.side.specs.Contents.{calling_of, called_of, low_of, high_of, user_of}
 use Rattle.side.specs.Steps.{written}
-use Rattle.isup.specs.declared.fields.Piece.{Piece}
+use Rattle.writer.specs.declared.types.WriteFault.{WriteFault}
 use Rattle.isup_meaning.specs.Writing.{pointer_to, tail}
 
 -- access transport: the octets of progress, and the parts but user-user
@@ -42,10 +42,10 @@ pub record Wrote (message before after : List ℕ) (n : ℕ) : Type 0 where
   pub count : n ≡ length message
   pub buffer : after ≡ written message before
 
+-- the same, or the buffer has fewer octets than any message may need
+abbrev pub Sent : List ℕ → List ℕ → List ℕ → Result ℕ WriteFault → Type 0
+Sent message before after r = MatchResult r (λ n. Wrote message before after n) (λ _. length before < 256)
+
 -- a field with its length before it
 abbrev pub with_length : List ℕ → List ℕ
 with_length field = length field ∷ field
-
--- the octets that a piece holds
-abbrev pub piece_of : Piece → List ℕ
-piece_of p = take p.count p.octets

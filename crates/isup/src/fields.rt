@@ -1,18 +1,17 @@
-//! Progress, causes and numbers as octets, held by value until the message is written.
+//! What a message holds besides its fixed octets.
 ghost use Rattle.std.specs.Prelude.{◌≡◌, ℕ, ◌≤◌, length};
 
 mod making;
 
-pub(crate) use making::{cause_piece, is_in_band, number_piece, progress_piece};
+use held::Held;
+pub(crate) use making::{cause_field, is_in_band, number_field, progress_octets};
+use side::parts::Parts;
 
-/// The most octets of a piece: a number's length, its two leading octets and its signals.
-const MOST: usize = 14;
-
-/// A piece of a message, held by value.
+/// What the optional list of a message holds; what is empty is left out.
 #[derive(Clone, Copy)]
-pub(crate) struct Piece {
-    octets: [u8; 14],
-    count: usize,
-    ghost room: { length octets ≡ 14 },
-    ghost most: { count ≤ 14 },
+pub(crate) struct Optional<'a> {
+    pub(crate) progress: Held<2>,
+    pub(crate) parts: &'a Parts,
+    pub(crate) bearer: &'a [u8],
+    ghost short: { length bearer.now ≤ 11 },
 }

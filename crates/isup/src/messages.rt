@@ -5,19 +5,41 @@ ghost use Rattle.entries.specs.Entries.{listed};
 ghost use Rattle.side.specs.Contents.{parts_of};
 ghost use Rattle.side.specs.Signals.{bearer_of, progress_of, contents_of};
 ghost use Rattle.side.specs.declared.contents.Signal.TheVariants as said;
-ghost use Rattle.isup_meaning.specs.Writing.{optional_table, isdn_octet, medium_of, iam, acm, cpg, con, anm, rel};
-ghost use Rattle.isup.specs.Writes.{message_of, Wrote};
+ghost use Rattle.isup_meaning.specs.Writing.{optional_table, isdn_octet, medium_of, iam, rel};
+ghost use Rattle.isup.specs.Messages.{plain_octets};
+ghost use Rattle.isup.specs.Writes.{message_of, Sent};
 
-use crate::fields::{cause_piece, number_piece, progress_piece};
+use crate::fields::{Optional, cause_field, number_field, progress_octets};
 use crate::writing::write;
+use held::Held;
 use isup_meaning::types::MessageType;
+use isup_reading::codes::Event;
 use side::contents::{Bearer, Cause, Progress, Setup};
 use side::leg::Leg;
 use side::parts::Parts;
 use values::Capability;
+use writer::types::WriteFault;
 
 /// The pointer to a field that stands right behind the two pointers.
 const NEXT_BUT_ONE: u8 = 2;
+
+/// What an address complete message says of the called party, with the octet that says it.
+#[derive(Clone, Copy)]
+pub(crate) enum Status {
+    NoIndication = 0x10,
+    SubscriberFree = 0x14,
+}
+
+/// A message with no field: fixed octets, and a list with progress and the parts.
+#[derive(Clone, Copy)]
+pub(crate) enum Plain {
+    /// The number is complete: the called party's status, and whether the access is ISDN.
+    AddressComplete(Status, bool),
+    CallProgress(Event),
+    /// The answer where no address complete message went before: whether the access is ISDN.
+    Connect(bool),
+    Answer,
+}
 
 /// An indicator octet with and without its ISDN bit.
 fn isdn_octet(with: u8, without: u8, isdn: bool) -> u8
@@ -37,87 +59,76 @@ fn medium(bearer: &Bearer) -> u8
     }
 }
 
-/// A message with no field: fixed octets, and a list with progress and the parts.
-fn fieldless(out: &mut [u8], fixed: &[u8], progress: Option<Progress>, parts: &Parts) -> usize
-    requires few { length fixed.now ≤ 9 }
-    requires room { 256 ≤ length out.old }
-    ensures { Wrote (message_of fixed.now [] (listed (optional_table (option_map progress_of progress) (parts_of parts.now) []))) out.old out.new result }
-{
-    let progress = progress_piece(progress);
-    write(out, fixed, &[], progress.as_octets(), parts, &[])
-}
-
-/// An address complete message.
-pub(crate) fn address_complete(
-    leg: Leg,
-    status: u8,
-    isdn: bool,
+/// Fixed octets, and a list with progress and the parts.
+fn fieldless(
+    out: &mut [u8],
+    fixed: &[u8],
     progress: Option<Progress>,
     parts: &Parts,
-    out: &mut [u8],
-) -> usize
-    requires { 256 ≤ length out.old }
-    ensures { Wrote (acm leg.number status isdn (listed (optional_table (option_map progress_of progress) (parts_of parts.now) []))) out.old out.new result }
+) -> Result<usize, WriteFault>
+    requires { length fixed.now ≤ 9 }
+    ensures { Sent (message_of fixed.now [] (listed (optional_table (option_map progress_of progress) (parts_of parts.now) []))) out.old out.new result }
 {
-    let fixed = [
-        leg.octet(),
-        0x00,
-        MessageType::AddressComplete.octet(),
-        status,
-        isdn_octet(0x14, 0x04, isdn),
-    ];
-    fieldless(out, &fixed, progress, parts)
+    let optional = Optional {
+        progress: progress_octets(progress),
+        parts,
+        bearer: &[],
+    };
+    write(out, fixed, Held::none(), &optional)
 }
 
-/// A call progress message.
-pub(crate) fn call_progress(
-    leg: Leg,
-    event: u8,
-    progress: Option<Progress>,
-    parts: &Parts,
-    out: &mut [u8],
-) -> usize
-    requires { 256 ≤ length out.old }
-    ensures { Wrote (cpg leg.number event (listed (optional_table (option_map progress_of progress) (parts_of parts.now) []))) out.old out.new result }
-{
-    let fixed = [leg.octet(), 0x00, MessageType::CallProgress.octet(), event];
-    fieldless(out, &fixed, progress, parts)
-}
-
-/// A connect message: the answer where no address complete message went before.
-pub(crate) fn connect(
-    leg: Leg,
-    isdn: bool,
-    progress: Option<Progress>,
-    parts: &Parts,
-    out: &mut [u8],
-) -> usize
-    requires { 256 ≤ length out.old }
-    ensures { Wrote (con leg.number isdn (listed (optional_table (option_map progress_of progress) (parts_of parts.now) []))) out.old out.new result }
-{
-    let fixed = [
-        leg.octet(),
-        0x00,
-        MessageType::Connect.octet(),
-        0x10,
-        isdn_octet(0x14, 0x04, isdn),
-    ];
-    fieldless(out, &fixed, progress, parts)
-}
-
-/// An answer message.
-pub(crate) fn answer(leg: Leg, progress: Option<Progress>, parts: &Parts, out: &mut [u8]) -> usize
-    requires { 256 ≤ length out.old }
-    ensures { Wrote (anm leg.number (listed (optional_table (option_map progress_of progress) (parts_of parts.now) []))) out.old out.new result }
-{
-    let fixed = [leg.octet(), 0x00, MessageType::Answer.octet()];
-    fieldless(out, &fixed, progress, parts)
+impl Plain {
+    /// Writes it from the front of a buffer; one of 256 octets holds every message.
+    pub(crate) fn write(
+        self,
+        leg: Leg,
+        progress: Option<Progress>,
+        parts: &Parts,
+        out: &mut [u8],
+    ) -> Result<usize, WriteFault>
+        ensures { Sent (plain_octets self leg.number (listed (optional_table (option_map progress_of progress) (parts_of parts.now) []))) out.old out.new result }
+    {
+        match self {
+            Plain::AddressComplete(status, isdn) => {
+                let fixed = [
+                    leg.octet(),
+                    0x00,
+                    MessageType::AddressComplete.octet(),
+                    status as u8,
+                    isdn_octet(0x14, 0x04, isdn),
+                ];
+                fieldless(out, &fixed, progress, parts)
+            }
+            Plain::CallProgress(event) => {
+                let fixed = [
+                    leg.octet(),
+                    0x00,
+                    MessageType::CallProgress.octet(),
+                    event.octet(),
+                ];
+                fieldless(out, &fixed, progress, parts)
+            }
+            Plain::Connect(isdn) => {
+                let fixed = [
+                    leg.octet(),
+                    0x00,
+                    MessageType::Connect.octet(),
+                    0x10,
+                    isdn_octet(0x14, 0x04, isdn),
+                ];
+                fieldless(out, &fixed, progress, parts)
+            }
+            Plain::Answer => {
+                let fixed = [leg.octet(), 0x00, MessageType::Answer.octet()];
+                fieldless(out, &fixed, progress, parts)
+            }
+        }
+    }
 }
 
 /// An initial address message.
-pub(crate) fn initial_address(leg: Leg, setup: &Setup, out: &mut [u8]) -> usize
-    requires { 256 ≤ length out.old }
-    ensures { Wrote (iam leg.number (contents_of (said.Setup setup.now))) out.old out.new result }
+pub(crate) fn initial_address(leg: Leg, setup: &Setup, out: &mut [u8]) -> Result<usize, WriteFault>
+    ensures { Sent (iam leg.number (contents_of (said.Setup setup.now))) out.old out.new result }
 {
     let fixed = [
         leg.octet(),
@@ -130,22 +141,22 @@ pub(crate) fn initial_address(leg: Leg, setup: &Setup, out: &mut [u8]) -> usize
         medium(&setup.bearer),
         NEXT_BUT_ONE,
     ];
-    let number = number_piece(&setup.number);
-    let progress = progress_piece(setup.progress);
-    write(
-        out,
-        &fixed,
-        number.as_octets(),
-        progress.as_octets(),
-        &setup.parts,
-        setup.bearer.as_octets(),
-    )
+    let optional = Optional {
+        progress: progress_octets(setup.progress),
+        parts: &setup.parts,
+        bearer: setup.bearer.as_octets(),
+    };
+    write(out, &fixed, number_field(&setup.number), &optional)
 }
 
 /// A release message.
-pub(crate) fn release(leg: Leg, cause: Cause, parts: &Parts, out: &mut [u8]) -> usize
-    requires { 256 ≤ length out.old }
-    ensures { Wrote (rel leg.number (contents_of (said.Clear cause parts.now))) out.old out.new result }
+pub(crate) fn release(
+    leg: Leg,
+    cause: Cause,
+    parts: &Parts,
+    out: &mut [u8],
+) -> Result<usize, WriteFault>
+    ensures { Sent (rel leg.number (contents_of (said.Clear cause parts.now))) out.old out.new result }
 {
     let fixed = [
         leg.octet(),
@@ -153,6 +164,10 @@ pub(crate) fn release(leg: Leg, cause: Cause, parts: &Parts, out: &mut [u8]) -> 
         MessageType::Release.octet(),
         NEXT_BUT_ONE,
     ];
-    let cause = cause_piece(cause);
-    write(out, &fixed, cause.as_octets(), &[], parts, &[])
+    let optional = Optional {
+        progress: Held::none(),
+        parts,
+        bearer: &[],
+    };
+    write(out, &fixed, cause_field(cause), &optional)
 }

@@ -1,27 +1,26 @@
 //! What becomes of a circuit's record, and what is written to a distant exchange.
-ghost use Rattle.std.specs.Prelude.{◌≡◌, ℕ, ◌≤◌, true, length, Some};
+ghost use Rattle.std.specs.Prelude.{◌≡◌, ℕ, true, length, Some};
 ghost use Rattle.side.specs.Table.{heard_in, told_in};
 ghost use Rattle.side.specs.Signals.{kind_of, contents_of, progress_of};
 ghost use Rattle.side.specs.Steps.{row_fault, One};
 ghost use Rattle.side.specs.declared.kinds.System.TheVariants.{Isup};
 ghost use Rattle.isup_meaning.specs.Writing.{replied, cleared_from, seized_by, takes, taken, progress_event, completed, told_octets, tells, told};
-ghost use Rattle.isup.specs.Writes.{Wrote};
+ghost use Rattle.isup_reading.specs.Events.{event_octet};
+ghost use Rattle.isup.specs.Writes.{Sent};
 
 use crate::fields::is_in_band;
-use crate::messages::{address_complete, answer, call_progress, connect, initial_address, release};
+use crate::messages::{Plain, Status, initial_address, release};
+use crate::writing::put;
 use isup_meaning::types::MessageType;
-use isup_reading::codes::{ALERTING, IN_BAND, PROGRESS};
+use isup_reading::codes::Event;
 use side::contents::{Progress, Reading, Signal};
 use side::kinds::{Kind, Phase, Refusal, System};
 use side::leg::Leg;
 use side::parts::Parts;
 use side::records::{CircuitRecord, Seizer};
 use side::refusing::row_fault;
-
-/// The called party's status in an address complete message: no indication.
-const NO_INDICATION: u8 = 0x10;
-/// The called party's status in an address complete message: subscriber free.
-const SUBSCRIBER_FREE: u8 = 0x14;
+use writer::Open;
+use writer::types::WriteFault;
 
 /// The phase after the call ended: a circuit that is clearing stays so, any other is free.
 fn cleared_from(phase: Phase) -> Phase
@@ -44,12 +43,11 @@ fn seized_by(who: Seizer, kind: Kind, before: Option<Seizer>) -> Option<Seizer>
 }
 
 /// A release is replied by a release complete message; nothing else is.
-fn write_reply(leg: Leg, heard: u8, out: &mut [u8]) -> usize
-    requires { 256 ≤ length out.old }
-    ensures { Wrote (replied leg.number heard) out.old out.new result }
+fn write_reply(leg: Leg, heard: u8, out: &mut [u8]) -> Result<usize, WriteFault>
+    ensures { Sent (replied leg.number heard) out.old out.new result }
 {
     if heard != MessageType::Release.octet() {
-        return 0;
+        return Ok(0);
     }
     let reply = [
         leg.octet(),
@@ -57,8 +55,8 @@ fn write_reply(leg: Leg, heard: u8, out: &mut [u8]) -> usize
         MessageType::ReleaseComplete.octet(),
         0x00,
     ];
-    out[0..4].copy_from_slice(&reply);
-    4
+    let front = put(Open::begin(), out, &reply)?;
+    Ok(front.close().length())
 }
 
 /// Takes what was read.
@@ -77,70 +75,71 @@ pub fn take(
         phase: kind.heard_to(cleared_from(before.phase), before.phase),
         seized: seized_by(Seizer::FarEnd, kind, before.seized),
     };
-    Ok((after, write_reply(reading.leg, reading.heard, reply)))
+    match write_reply(reading.leg, reading.heard, reply) {
+        Ok(count) => Ok((after, count)),
+        // The row was asked with the buffer's length, and 256 octets hold every message.
+        Err(_) => unreachable(),
+    }
 }
 
 /// Whether an address complete message went before.
 fn is_completed(phase: Phase) -> bool
     ensures { result ≡ completed phase }
 {
-    match phase {
-        Phase::CallingComplete => true,
-        _ => false,
-    }
+    matches!(phase, Phase::CallingComplete)
 }
 
 /// The event of progress: in-band information is one of its own.
-fn progress_event(progress: Progress) -> u8
-    ensures { result ≡ progress_event (Some (progress_of progress)) }
+fn progress_event(progress: Progress) -> Event
+    ensures { event_octet result ≡ progress_event (Some (progress_of progress)) }
 {
     if is_in_band(progress) {
-        IN_BAND
+        Event::InBand
     } else {
-        PROGRESS
+        Event::Progress
     }
 }
 
 /// Writes what a signal says; where that is nothing, nothing.
-fn write_signal(leg: Leg, done: bool, signal: &Signal, out: &mut [u8]) -> usize
-    requires { 256 ≤ length out.old }
-    ensures { Wrote (told_octets leg.number done (kind_of signal.now) (contents_of signal.now)) out.old out.new result }
+fn write_signal(leg: Leg, done: bool, signal: &Signal, out: &mut [u8]) -> Result<usize, WriteFault>
+    ensures { Sent (told_octets leg.number done (kind_of signal.now) (contents_of signal.now)) out.old out.new result }
 {
     match *signal {
         Signal::Setup(setup) => initial_address(leg, &setup, out),
         Signal::Complete(progress, isdn) => {
-            let none = Parts::none();
-            if done {
-                call_progress(leg, PROGRESS, progress, &none, out)
+            let message = if done {
+                Plain::CallProgress(Event::Progress)
             } else {
-                address_complete(leg, NO_INDICATION, isdn, progress, &none, out)
-            }
+                Plain::AddressComplete(Status::NoIndication, isdn)
+            };
+            message.write(leg, progress, &Parts::none(), out)
         }
         Signal::Progress(progress, isdn) => {
-            let none = Parts::none();
-            if done {
-                let event = progress_event(progress);
-                call_progress(leg, event, Some(progress), &none, out)
+            let message = if done {
+                Plain::CallProgress(progress_event(progress))
             } else {
-                address_complete(leg, NO_INDICATION, isdn, Some(progress), &none, out)
-            }
+                Plain::AddressComplete(Status::NoIndication, isdn)
+            };
+            message.write(leg, Some(progress), &Parts::none(), out)
         }
         Signal::Alerting(progress, isdn, parts) => {
-            if done {
-                call_progress(leg, ALERTING, progress, &parts, out)
+            let message = if done {
+                Plain::CallProgress(Event::Alerting)
             } else {
-                address_complete(leg, SUBSCRIBER_FREE, isdn, progress, &parts, out)
-            }
+                Plain::AddressComplete(Status::SubscriberFree, isdn)
+            };
+            message.write(leg, progress, &parts, out)
         }
         Signal::Answer(progress, isdn, parts) => {
-            if done {
-                answer(leg, progress, &parts, out)
+            let message = if done {
+                Plain::Answer
             } else {
-                connect(leg, isdn, progress, &parts, out)
-            }
+                Plain::Connect(isdn)
+            };
+            message.write(leg, progress, &parts, out)
         }
         Signal::Clear(cause, parts) => release(leg, cause, &parts, out),
-        Signal::Quiet | Signal::Down => 0,
+        Signal::Quiet | Signal::Down => Ok(0),
     }
 }
 
@@ -165,6 +164,9 @@ pub fn tell(
         phase: kind.told_to(before.phase),
         seized: seized_by(Seizer::We, kind, before.seized),
     };
-    let n = write_signal(leg, is_completed(before.phase), signal, message);
-    Ok((after, n))
+    match write_signal(leg, is_completed(before.phase), signal, message) {
+        Ok(count) => Ok((after, count)),
+        // The row was asked with the buffer's length, and 256 octets hold every message.
+        Err(_) => unreachable(),
+    }
 }

@@ -1,140 +1,110 @@
 //! Writes a message: fixed octets, pointers, a field, and the optional list with access transport inside it.
-ghost use Rattle.std.specs.Prelude.{◌≡◌, ℕ, ◌+◌, ◌≤◌, [], ◌∷◌, ◌++◌, length};
+ghost use Rattle.std.specs.Prelude.{◌≡◌, ℕ, ◌+◌, ◌<◌, ◌≤◌, [], ◌∷◌, ◌++◌, length, MatchResult};
 ghost use Rattle.writer.specs.Written.{Adds};
+ghost use Rattle.held.specs.Held.{octets_of};
 ghost use Rattle.entries.specs.Entries.{entry_octets, listed};
 ghost use Rattle.isup_meaning.specs.Writing.{pointer_to, tail};
-ghost use Rattle.isup.specs.Writes.{access_of, optional_of, no_access, no_list, message_of, Wrote};
+ghost use Rattle.isup.specs.Writes.{access_of, optional_of, no_access, no_list, message_of, Sent};
 
+use crate::fields::Optional;
 use carried::{CALLED, CALLING, HIGH, LOW, PROGRESS};
 use elements::{Dss1, Isup as OptionalCoding};
 use entries::entry;
+use held::Held;
 use isup_reading::codes::{ACCESS, BEARER, USER};
-use side::parts::Parts;
+use writer::types::WriteFault;
 use writer::{Closed, Listing, Open};
 
 /// Octets behind what is written.
-fn put(front: Open, out: &mut [u8], octets: &[u8]) -> Open
-    requires { front.at + length octets.now ≤ length out.old }
-    ensures { Adds octets.now front.at out.old result.at out.new }
+pub(crate) fn put(front: Open, out: &mut [u8], octets: &[u8]) -> Result<Open, WriteFault>
+    ensures { MatchResult result (λ next. Adds octets.now front.at out.old next.at out.new) (λ _. length out.old < front.at + length octets.now) }
 {
-    match front.octets(out, octets) {
-        Ok(front) => front,
-        Err(_) => unreachable(),
-    }
+    front.octets(out, octets)
 }
 
-/// Whether access transport says nothing.
-fn no_access(progress: &[u8], parts: &Parts) -> bool
-    ensures { result ≡ no_access progress.now parts.now }
-{
-    progress.is_empty()
-        && parts.calling().is_empty()
-        && parts.called().is_empty()
-        && parts.low().is_empty()
-        && parts.high().is_empty()
-}
-
-/// Whether the optional list says nothing.
-fn no_list(progress: &[u8], parts: &Parts, bearer: &[u8]) -> bool
-    ensures { result ≡ no_list progress.now parts.now bearer.now }
-{
-    no_access(progress, parts) && bearer.is_empty() && parts.user_user().is_empty()
-}
-
-/// Access transport, where it says something: a list of its own, written into the part of the buffer that starts
-/// where its contents begin.
-fn put_access(
-    listing: Listing<OptionalCoding>,
-    out: &mut [u8],
-    progress: &[u8],
-    parts: &Parts,
-) -> Listing<OptionalCoding>
-    requires first { listing.last ≡ 0 }
-    requires few { length progress.now ≤ 2 }
-    requires room { listing.at + 206 ≤ length out.old }
-    ensures adds { Adds (entry_octets (record { tag = 0x03; contents = listed (access_of progress.now parts.now) })) listing.at out.old result.at out.new }
-    ensures last { result.last ≤ 3 }
-{
-    if no_access(progress, parts) {
-        return listing;
+impl Optional<'_> {
+    /// Whether access transport says nothing.
+    fn no_access(&self) -> bool
+        ensures { result ≡ no_access (octets_of self.now.progress) self.now.parts.now }
+    {
+        self.progress.as_octets().is_empty()
+            && self.parts.calling().is_empty()
+            && self.parts.called().is_empty()
+            && self.parts.low().is_empty()
+            && self.parts.high().is_empty()
     }
-    let items = [
-        entry(PROGRESS, progress),
-        entry(CALLING, parts.calling()),
-        entry(CALLED, parts.called()),
-        entry(LOW, parts.low()),
-        entry(HIGH, parts.high()),
-    ];
-    match listing.nest(out, ACCESS, Dss1, &items) {
-        Ok(listing) => listing,
-        Err(_) => unreachable(),
-    }
-}
 
-/// The optional list behind what is written, and its end.
-fn put_list(front: Open, out: &mut [u8], progress: &[u8], parts: &Parts, bearer: &[u8]) -> Closed
-    requires few { length progress.now ≤ 2 }
-    requires short { length bearer.now ≤ 11 }
-    requires room { front.at + 230 ≤ length out.old }
-    ensures { Adds (listed (optional_of progress.now parts.now bearer.now) ++ (0 ∷ [])) front.at out.old result.length out.new }
-{
-    let listing = put_access(front.list(OptionalCoding), out, progress, parts);
-    let items = [entry(BEARER, bearer), entry(USER, parts.user_user())];
-    match listing.close_with(out, &items) {
-        Ok(closed) => closed,
-        Err(_) => unreachable(),
+    /// Whether the list says nothing.
+    fn is_empty(&self) -> bool
+        ensures { result ≡ no_list (octets_of self.now.progress) self.now.parts.now self.now.bearer.now }
+    {
+        self.no_access() && self.bearer.is_empty() && self.parts.user_user().is_empty()
     }
-}
 
-/// The octet of the pointer to the optional list: 00 where it says nothing.
-fn pointer(distance: u8, progress: &[u8], parts: &Parts, bearer: &[u8]) -> u8
-    ensures { result ≡ pointer_to distance (listed (optional_of progress.now parts.now bearer.now)) }
-{
-    if no_list(progress, parts, bearer) {
-        0
-    } else {
-        distance
+    /// Access transport behind what is written, where it says something: a list of its own, written into the part of
+    /// the buffer that starts where its contents begin.
+    fn put_access(&self, front: Open, out: &mut [u8]) -> Result<Listing<OptionalCoding>, WriteFault>
+        ensures { MatchResult result (λ next. Adds (entry_octets (record { tag = 0x03; contents = listed (access_of (octets_of self.now.progress) self.now.parts.now) })) front.at out.old next.at out.new × (next.last ≤ 3)) (λ _. length out.old < front.at + 206) }
+    {
+        let listing = front.list(OptionalCoding);
+        if self.no_access() {
+            return Ok(listing);
+        }
+        let items = [
+            entry(PROGRESS, self.progress.as_octets()),
+            entry(CALLING, self.parts.calling()),
+            entry(CALLED, self.parts.called()),
+            entry(LOW, self.parts.low()),
+            entry(HIGH, self.parts.high()),
+        ];
+        listing.nest(out, ACCESS, Dss1, &items)
     }
-}
 
-/// The optional list, where it says something, and the end of the message.
-fn put_optional(
-    front: Open,
-    out: &mut [u8],
-    progress: &[u8],
-    parts: &Parts,
-    bearer: &[u8],
-) -> Closed
-    requires few { length progress.now ≤ 2 }
-    requires short { length bearer.now ≤ 11 }
-    requires room { front.at + 230 ≤ length out.old }
-    ensures { Adds (tail (listed (optional_of progress.now parts.now bearer.now))) front.at out.old result.length out.new }
-{
-    if no_list(progress, parts, bearer) {
-        return front.close();
+    /// The list behind what is written, and its end.
+    fn put_list(&self, front: Open, out: &mut [u8]) -> Result<Closed, WriteFault>
+        ensures { MatchResult result (λ closed. Adds (listed (optional_of (octets_of self.now.progress) self.now.parts.now self.now.bearer.now) ++ (0 ∷ [])) front.at out.old closed.length out.new) (λ _. length out.old < front.at + 230) }
+    {
+        let listing = self.put_access(front, out)?;
+        let items = [
+            entry(BEARER, self.bearer),
+            entry(USER, self.parts.user_user()),
+        ];
+        listing.close_with(out, &items)
     }
-    put_list(front, out, progress, parts, bearer)
+
+    /// The octet of the pointer to the list: 00 where it says nothing.
+    fn pointer(&self, distance: u8) -> u8
+        ensures { result ≡ pointer_to distance (listed (optional_of (octets_of self.now.progress) self.now.parts.now self.now.bearer.now)) }
+    {
+        if self.is_empty() { 0 } else { distance }
+    }
+
+    /// The list, where it says something, and the end of the message.
+    fn close(&self, front: Open, out: &mut [u8]) -> Result<Closed, WriteFault>
+        ensures { MatchResult result (λ closed. Adds (tail (listed (optional_of (octets_of self.now.progress) self.now.parts.now self.now.bearer.now))) front.at out.old closed.length out.new) (λ _. length out.old < front.at + 230) }
+    {
+        if self.is_empty() {
+            return Ok(front.close());
+        }
+        self.put_list(front, out)
+    }
 }
 
 /// A whole message: fixed octets, the pointer to the optional list, what stands between them, and the list.
 pub(crate) fn write(
     out: &mut [u8],
     fixed: &[u8],
-    between: &[u8],
-    progress: &[u8],
-    parts: &Parts,
-    bearer: &[u8],
-) -> usize
-    requires fixed { length fixed.now ≤ 9 }
-    requires between { length between.now ≤ 14 }
-    requires few { length progress.now ≤ 2 }
-    requires short { length bearer.now ≤ 11 }
-    requires room { 256 ≤ length out.old }
-    ensures { Wrote (message_of fixed.now between.now (listed (optional_of progress.now parts.now bearer.now))) out.old out.new result }
+    between: Held<14>,
+    optional: &Optional<'_>,
+) -> Result<usize, WriteFault>
+    requires { length fixed.now ≤ 9 }
+    ensures { Sent (message_of fixed.now (octets_of between) (listed (optional_of (octets_of optional.now.progress) optional.now.parts.now optional.now.bearer.now))) out.old out.new result }
 {
+    let between = between.as_octets();
     let distance = 1 + between.len() as u8;
-    let front = put(Open::begin(), out, fixed);
-    let front = put(front, out, &[pointer(distance, progress, parts, bearer)]);
-    let front = put(front, out, between);
-    put_optional(front, out, progress, parts, bearer).length()
+    let fixed = put(Open::begin(), out, fixed)?;
+    let pointer = put(fixed, out, &[optional.pointer(distance)])?;
+    let field = put(pointer, out, between)?;
+    let closed = optional.close(field, out)?;
+    Ok(closed.length())
 }

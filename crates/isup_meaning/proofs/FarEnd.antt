@@ -7,11 +7,11 @@ use Rattle.entries.specs.Entries.{listed, under, found}
 use Rattle.entries.proofs.Tables.{reads_found_bare, whole_bare}
 use Rattle.side.specs.Contents.{Part}
 use Rattle.side.specs.Meaning.{PartsWithin}
-use Rattle.carried.specs.Carried.{Five, five_in, five_at, parts_of, fault_of, part_at, parts_bad_at}
+use Rattle.carried.specs.Carried.{Five, five_in, five_at, parts_of, fault_of, part_at, parts_bad_at, earlier}
 use Rattle.carried.proofs.PartLaws.{within_parts, within_fault}
 use Rattle.isup_meaning.specs.declared.types.MessageType.{MessageType}
 use Rattle.isup_meaning.specs.declared.types.MessageType.TheVariants as type
-use Rattle.isup_meaning.specs.Reading.{circuit_in, type_in, type_octet, fixed_count, has_field, field_pointer, list_pointer, list_in, field_fault, optional_fault, nested_fault, earlier, body_in, five_of, parts_bad, body_read, heard_as, whole_read, type_read, reads}
+use Rattle.isup_meaning.specs.Reading.{circuit_in, type_in, type_octet, fixed_count, has_field, field_pointer, list_pointer, list_in, field_fault, optional_fault, nested_fault, body_in, five_of, parts_bad, body_read, heard_as, whole_read, type_read, reads}
 use Rattle.isup_meaning.specs.Writing.{head, access_table, optional_table, pointer_to, tail, list_only, field_and_list}
 use Rattle.isup_meaning.proofs.Pointers.{field_whole, field_back, list_whole, list_found}
 use Rattle.isup_meaning.proofs.Lengths.{access_ascends, optional_ascends}

@@ -1,5 +1,5 @@
 -- How long the tables of a message are, and that their tags ascend. Assumes nothing.
-use Rattle.std.proofs.Common.{ℕ, ◌+◌, ◌≤◌, Bool, true, false, cond, eqb, List, [], ◌∷◌, ◌++◌, length, Some, None, Option, refl, arith, lit<, lit≤, length-append}
+use Rattle.std.proofs.Common.{ℕ, ◌+◌, ◌≤◌, Bool, true, false, cond, eqb, List, [], ◌∷◌, ◌++◌, length, Some, Option, refl, arith, lit<, length-append}
 use Rattle.entries.specs.Codings.{dss1, isup}
 use Rattle.entries.specs.Entries.{listed, weight, Ascending}
 use Rattle.entries.proofs.Tables.{listed_length, light}
@@ -9,21 +9,10 @@ use Rattle.values.specs.declared.types.NumberType.{NumberType}
 use Rattle.side.specs.Limits.{cost}
 use Rattle.side.specs.Contents.{Part}
 use Rattle.side.specs.Meaning.{PartsWithin}
-use Rattle.carried.specs.Carried.{part_at, progress_octets, cause_octets}
+use Rattle.carried.specs.Carried.{part_at, progress_octets}
 use Rattle.carried.proofs.PartLaws.{within_weights, part_short}
+use Rattle.carried.proofs.Withins.{progress_short}
 use Rattle.isup_meaning.specs.Writing.{but_in_band, access_table, optional_table, tail, list_only, field_and_list, number_field}
-
--- no parts are within the limits
-pub no_parts : PartsWithin []
-no_parts = record { calling = []; called = []; low = []; high = []; user = []; are = refl; total = lit≤ tt; few = lit≤ tt }
-
-pub progress_short : (p : Option (ℕ × ℕ)) → length (progress_octets p) ≤ 2
-progress_short None = lit≤ tt
-progress_short (Some p) = lit≤ tt
-
-pub cause_short : (p : Option (ℕ × ℕ)) → length (cause_octets p) ≤ 2
-cause_short None = lit≤ tt
-cause_short (Some p) = lit≤ tt
 
 pub number_short : (t : NumberType) (d : List ℕ) → Number d → length (number_field (Some (t, d))) ≤ 13
 number_short t d n = let h = n.1 in omega (arith, length_packed_ended d)

@@ -23,7 +23,7 @@ use Rattle.carried.proofs.PartLaws.{cause_back}
 use Rattle.isup_meaning.specs.declared.types.MessageType.TheVariants as type
 use Rattle.isup_meaning.specs.Reading.{Body, refusal, body_in, five_of, progress_of, numbered, number_in, medium_bearer, there, backward_isdn, setup_says, party_says, clear_says, judged, parts_bad, setup_bad, setup_read, event_read, release_read, heard_as, reads}
 use Rattle.isup_meaning.specs.Writing.{optional_table, number_field, isdn_octet, odd_bit, medium_of, iam, acm, cpg, con, anm, rel, progress_event, far_of}
-use Rattle.isup_meaning.proofs.Lengths.{no_parts}
+use Rattle.carried.proofs.Withins.{no_parts}
 use Rattle.isup_meaning.proofs.Shorts.{iam_short, rel_short}
 use Rattle.isup_meaning.proofs.FarEnd.{plain_parts, plain_fine, plain_reads, long_parts, long_fine, long_bearer, long_field, long_reads}
 

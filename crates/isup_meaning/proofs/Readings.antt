@@ -1,15 +1,11 @@
 -- What a message that is read says is within its limits, and its circuit exists. Assumes nothing.
-use Rattle.std.proofs.Common.{◌≡◌, ℕ, ◌+◌, ◌/◌, ◌%◌, ◌<◌, ◌≤◌, Bool, true, false, cond, not, ◌&&◌, ◌||◌, eqb, ltb, leb, List, [], ◌∷◌, length, get_or, is_some, is_ok, Some, None, Ok, Err, Option, Result, sym, refl, ap, ◌∙◌, subst, arith, lit≤}
-use Rattle.std.proofs.lemmas.Bool.{ltb-true, ltb-false, and_parts}
+use Rattle.std.proofs.Common.{◌≡◌, ℕ, ◌+◌, ◌/◌, ◌%◌, ◌<◌, Bool, true, false, cond, not, ◌&&◌, ◌||◌, eqb, ltb, leb, List, [], ◌∷◌, length, get_or, is_some, is_ok, Some, None, Ok, Err, Option, Result, sym, refl, ap, subst, arith, lit≤}
+use Rattle.std.proofs.lemmas.Bool.{ltb-true, and_parts, both_ways}
 use Rattle.values.specs.declared.types.NumberType.{NumberType}
-use Rattle.values.specs.declared.types.Capability.{Capability}
 use Rattle.values.specs.declared.types.Capability.TheVariants.{Speech, Unrestricted, Audio}
-use Rattle.values.specs.declared.types.BearerFault.{BearerFault}
-use Rattle.values.specs.declared.types.BearerFault.TheVariants.{TooShort, TooLong}
 use Rattle.values.specs.Causes.{cause_in}
-use Rattle.values.specs.Bearers.{bearer_in, capability_of}
+use Rattle.values.specs.Bearers.{bearer_in}
 use Rattle.values.specs.Numbers.{type_of_nature}
-use Rattle.digits.specs.declared.types.DigitFault.{DigitFault}
 use Rattle.digits.specs.Dialling.{Number}
 use Rattle.digits.specs.Signals.{unpacked, digits_of, without_end, signals_in}
 use Rattle.side.specs.declared.kinds.Kind.{Kind}
@@ -21,45 +17,19 @@ use Rattle.side.specs.Meaning.{Within, PartsWithin, bears}
 use Rattle.carried.specs.Carried.{parts_of, fault_of}
 use Rattle.carried.proofs.PartLaws.{sooner_none, bad_none, parts_bad_none, fault_none}
 use Rattle.carried.proofs.Numbers.{text_of_number}
+use Rattle.carried.proofs.Served.{Served, bearer_good}
+use Rattle.carried.proofs.Withins.{no_parts, plain, quiet_within, setup_fits, progress_fits, clear_fits, cause_in_range, numbered_is}
 use Rattle.isup_meaning.specs.declared.types.MessageType.{MessageType}
 use Rattle.isup_meaning.specs.declared.types.MessageType.TheVariants as type
-use Rattle.isup_meaning.specs.Reading.{Body, Said, refusal, circuit_in, headed, type_in, fixed_count, body_in, broken, five_of, progress_of, numbered, number_in, medium_bearer, or_bearer, there, bearer_of, backward_isdn, setup_says, party_says, progress_says, clear_says, judged, parts_bad, setup_bad, setup_read, complete_read, event_read, progress_read, release_read, body_read, heard_as, whole_read, layout_read, type_read, reads}
-use Rattle.isup_meaning.proofs.Lengths.{no_parts}
-
-pub numbered_in : (t : Option NumberType) (r : Result (List ℕ) DigitFault) → is_some (numbered t r) ≡ true → (k : NumberType) × ((d : List ℕ) × (numbered t r ≡ Some (k, d)) × (r ≡ Ok d))
-numbered_in None r e = absurd (grind arith)
-numbered_in (Some t) (Err f) e = absurd (grind arith)
-numbered_in (Some t) (Ok d) e = (t, (d, refl, refl))
+use Rattle.isup_meaning.specs.Reading.{Body, Said, refusal, circuit_in, headed, type_in, fixed_count, body_in, broken, five_of, progress_of, number_in, medium_bearer, or_bearer, there, bearer_of, backward_isdn, setup_says, party_says, progress_says, clear_says, judged, parts_bad, setup_bad, setup_read, complete_read, event_read, progress_read, release_read, body_read, heard_as, whole_read, layout_read, type_read, reads}
 
 -- a number field that says a number
 pub number_in_back : (f : List ℕ) → is_some (number_in f) ≡ true → (t : NumberType) × ((d : List ℕ) × (number_in f ≡ Some (t, d)) × Number d)
 number_in_back [] e = absurd (grind arith)
 number_in_back (a ∷ []) e = absurd (grind arith)
 number_in_back (a ∷ b ∷ ss) e =
-    let n = numbered_in (type_of_nature (a % 128)) (unpacked (leb 128 a) ss) e in
+    let n = numbered_is (type_of_nature (a % 128)) (unpacked (leb 128 a) ss) e in
     (n.0, (n.1.0, n.1.1, text_of_number (digits_of (without_end (signals_in (leb 128 a) ss))) n.1.0 n.1.2))
-
--- a bearer that is served
-abbrev pub Served : List ℕ → Type 0
-Served b = (2 ≤ length b) × (length b ≤ 11) × ((capability : Capability) × (bearer_in b ≡ Ok capability))
-
-pub bearer_in_served : (b : List ℕ) → is_ok (bearer_in b) ≡ true → Served b
-bearer_in_served b e = by (ltb (length b) 2) refl (ltb 11 (length b)) refl (capability_of (get_or b 0 0 % 32)) refl e
-  where
-    by : (x : Bool) → ltb (length b) 2 ≡ x → (y : Bool) → ltb 11 (length b) ≡ y → (r : Result Capability BearerFault) → capability_of (get_or b 0 0 % 32) ≡ r →
-        is_ok (cond x (Err TooShort) (cond y (Err TooLong) r)) ≡ true → Served b
-    by true p y q r z h = absurd (grind arith)
-    by false p true q r z h = absurd (grind arith)
-    by false p false q (Err f) z h = absurd (grind arith)
-    by false p false q (Ok k) z h = (
-      ltb-false (length b) 2 p,
-      ltb-false 11 (length b) q,
-      (
-        k,
-        ap (λ x. cond x (Err TooShort) (cond (ltb 11 (length b)) (Err TooLong) (capability_of (get_or b 0 0 % 32)))) p
-            ∙ ap (λ x. cond x (Err TooLong) (capability_of (get_or b 0 0 % 32))) q ∙ z,
-      ),
-    )
 
 pub medium_in : (m : ℕ) → is_some (medium_bearer m) ≡ true → Served (or_bearer (medium_bearer m))
 medium_in m e = by (eqb m 0x00) (eqb m 0x02) (eqb m 0x03) e
@@ -76,33 +46,8 @@ pub served_in : (b : Body) → is_some (medium_bearer (get_or b.octets 7 0)) ≡
 served_in b m e = by (there b.bearer) e
   where
     by : (x : Bool) → (not x || is_ok (bearer_in b.bearer)) ≡ true → Served (cond x b.bearer (or_bearer (medium_bearer (get_or b.octets 7 0))))
-    by true h = bearer_in_served b.bearer h
+    by true h = bearer_good b.bearer h
     by false h = medium_in (get_or b.octets 7 0) m
-
-pub cause_in_range : (f : List ℕ) (c : ℕ × ℕ) → cause_in f ≡ Some c → (c.0 < 16) × (c.1 < 128)
-cause_in_range [] c e = absurd (grind arith)
-cause_in_range (a ∷ []) c e = absurd (grind arith)
-cause_in_range (a ∷ b ∷ []) c e = by (leb 128 a) e
-  where
-    by : (x : Bool) → cond x (Some (a % 16, b % 128)) None ≡ Some c → (c.0 < 16) × (c.1 < 128)
-    by true h = let i : (a % 16, b % 128) ≡ c = grind arith in subst (λ x. (x.0 < 16) × (x.1 < 128)) i (omega arith, omega arith)
-    by false h = absurd (grind arith)
-cause_in_range (a ∷ b ∷ d ∷ rest) c e = by (leb 128 a) e
-  where
-    by : (x : Bool) → cond x (Some (a % 16, b % 128)) (Some (a % 16, d % 128)) ≡ Some c → (c.0 < 16) × (c.1 < 128)
-    by true h = let i : (a % 16, b % 128) ≡ c = grind arith in subst (λ x. (x.0 < 16) × (x.1 < 128)) i (omega arith, omega arith)
-    by false h = let i : (a % 16, d % 128) ≡ c = grind arith in subst (λ x. (x.0 < 16) × (x.1 < 128)) i (omega arith, omega arith)
-
--- contents that hold nothing that their kind asks for but parts
-pub plain : (k : Kind) (c : Contents) → PartsWithin c.parts → (bears k ≡ false → c.parts ≡ []) → (k ≡ Setup → ⊥) → (k ≡ Progress → ⊥) → (k ≡ Clear → ⊥) → Within k c
-plain k c p b s g t = record {
-  parts = p;
-  bare = b;
-  bearer = λ e. absurd (s e);
-  number = λ e. absurd (s e);
-  noted = λ e. absurd (g e);
-  cause = λ e. absurd (t e);
-}
 
 pub parts_in : (b : Body) → parts_bad b ≡ None → PartsWithin (parts_of (five_of b))
 parts_in b e = fault_none (five_of b) (parts_bad_none (fault_of (five_of b)) b.user_at e)
@@ -112,53 +57,29 @@ setup_within b e =
     let m = sooner_none _ _ e in
     let n = sooner_none _ _ m.1 in
     let r = sooner_none _ _ n.1 in
-    let s = served_in b (bad_none _ _ m.0) (bad_none _ _ r.0) in
-    let d = number_in_back b.field (bad_none _ _ n.0) in
-    record {
-      parts = parts_in b r.1;
-      bare = λ e. absurd (grind arith);
-      bearer = λ _. (s.0, s.1);
-      number = λ _. d;
-      noted = λ e. absurd (grind arith);
-      cause = λ e. absurd (grind arith);
-    }
+    setup_fits (setup_says b) (parts_in b r.1) (served_in b (bad_none _ _ m.0) (bad_none _ _ r.0)) (number_in_back b.field (bad_none _ _ n.0))
+
+pub party_within : (k : Kind) (i : Bool) (b : Body) → bears k ≡ true → (k ≡ Setup → ⊥) → (k ≡ Clear → ⊥) → parts_bad b ≡ None → Within k (party_says i b)
+party_within k i b h s t e =
+    plain k (party_says i b) (parts_in b e) (λ z. absurd (both_ways (bears k) z h)) s (λ z. absurd (both_ways (bears k) (ap bears z) h)) t
 
 pub alerting_within : (i : Bool) (b : Body) → parts_bad b ≡ None → Within Alerting (party_says i b)
-alerting_within i b e = plain Alerting (party_says i b) (parts_in b e) (λ e. absurd (grind arith)) (λ e. grind arith) (λ e. grind arith) (λ e. grind arith)
+alerting_within i b e = party_within Alerting i b refl (λ z. grind arith) (λ z. grind arith) e
 
 pub answer_within : (i : Bool) (b : Body) → parts_bad b ≡ None → Within Answer (party_says i b)
-answer_within i b e = plain Answer (party_says i b) (parts_in b e) (λ e. absurd (grind arith)) (λ e. grind arith) (λ e. grind arith) (λ e. grind arith)
+answer_within i b e = party_within Answer i b refl (λ z. grind arith) (λ z. grind arith) e
 
 pub complete_within : (i : Bool) (p : Option (ℕ × ℕ)) → Within Complete (progress_says i p)
 complete_within i p = plain Complete (progress_says i p) no_parts (λ _. refl) (λ e. grind arith) (λ e. grind arith) (λ e. grind arith)
-
-pub quiet_within : Within Quiet empty
-quiet_within = plain Quiet empty no_parts (λ _. refl) (λ e. grind arith) (λ e. grind arith) (λ e. grind arith)
 
 pub down_within : Within Down empty
 down_within = plain Down empty no_parts (λ _. refl) (λ e. grind arith) (λ e. grind arith) (λ e. grind arith)
 
 pub progress_within : (i : Bool) (p : ℕ × ℕ) → Within Progress (progress_says i (Some p))
-progress_within i p = record {
-  parts = no_parts;
-  bare = λ _. refl;
-  bearer = λ e. absurd (grind arith);
-  number = λ e. absurd (grind arith);
-  noted = λ _. (p.0, (p.1, refl));
-  cause = λ e. absurd (grind arith);
-}
+progress_within i p = progress_fits (progress_says i (Some p)) p refl refl
 
 pub clear_within : (c : ℕ × ℕ) (b : Body) → cause_in b.field ≡ Some c → parts_bad b ≡ None → Within Clear (clear_says c b)
-clear_within c b f e =
-    let k = cause_in_range b.field c f in
-    record {
-      parts = parts_in b e;
-      bare = λ e. absurd (grind arith);
-      bearer = λ e. absurd (grind arith);
-      number = λ e. absurd (grind arith);
-      noted = λ e. absurd (grind arith);
-      cause = λ _. (c.0, (c.1, refl, k.0, k.1));
-    }
+clear_within c b f e = clear_fits (clear_says c b) c (parts_in b e) refl (cause_in_range b.field c f)
 
 -- what was judged well is said
 abbrev pub Fine : Said → Type 0

@@ -10,7 +10,8 @@ use Rattle.side.specs.Meaning.{Within, PartsWithin}
 use Rattle.carried.specs.Carried.{cause_octets, told_bearer}
 use Rattle.isup_meaning.specs.declared.types.MessageType.TheVariants as type
 use Rattle.isup_meaning.specs.Writing.{head, replied, optional_table, field_and_list, number_field, isdn_octet, medium_of, iam, acm, cpg, con, anm, rel, party_list, progress_list, progress_event, told_octets}
-use Rattle.isup_meaning.proofs.Lengths.{no_parts, optional_length, list_only_length, field_list_length, cause_short, number_short}
+use Rattle.carried.proofs.Withins.{no_parts, cause_short}
+use Rattle.isup_meaning.proofs.Lengths.{optional_length, list_only_length, field_list_length, number_short}
 
 -- by the lengths of field and list
 pub iam_length : (l a b : ℕ) (field list : List ℕ) → length (head l type.InitialAddress ++ (0x00 ∷ 0x20 ∷ a ∷ 0x0A ∷ b ∷ field_and_list field list)) ≤ length field + length list + 12

@@ -1,6 +1,6 @@
 -- The messages of ISUP as they are read: circuit, type, fixed octets, pointers, the fields they reach; refusals and their places.
 -- Rests on element lists, on the values inside parameters and on the kinds.
-use Rattle.std.specs.Prelude.{ℕ, ◌+◌, ◌*◌, ◌/◌, ◌%◌, Bool, true, false, cond, not, ◌&&◌, ◌||◌, List, [], ◌∷◌, length, take, drop, is_some, is_ok, Some, None, Ok, Err, Option, Result, ◌==◌, nat_le, nat_lt, slice_index}
+use Rattle.std.specs.Prelude.{ℕ, ◌+◌, ◌*◌, ◌/◌, ◌%◌, Bool, true, false, cond, not, ◌&&◌, ◌||◌, List, [], ◌∷◌, length, take, drop, is_some, is_ok, Some, None, Ok, Err, Option, Result, ok_or, ◌==◌, nat_le, nat_lt, slice_index}
 use Rattle.elements.specs.declared.types.ListFault.{ListFault}
 use Rattle.elements.specs.declared.types.ListFault.TheVariants.{BreaksOff, NoEnd}
 use Rattle.elements.specs.Elements.{checked}
@@ -10,7 +10,6 @@ use Rattle.values.specs.declared.types.NumberType.{NumberType}
 use Rattle.values.specs.Causes.{cause_in}
 use Rattle.values.specs.Bearers.{bearer_in}
 use Rattle.values.specs.Numbers.{type_of_nature}
-use Rattle.digits.specs.declared.types.DigitFault.{DigitFault}
 use Rattle.digits.specs.Signals.{unpacked}
 use Rattle.side.specs.declared.kinds.Kind.{Kind}
 use Rattle.side.specs.declared.kinds.Kind.TheVariants.{Setup, Complete, Progress, Alerting, Answer, Quiet, Clear, Down}
@@ -20,9 +19,11 @@ use Rattle.side.specs.declared.kinds.Reason.TheVariants.{Malformed, UnknownType,
 use Rattle.side.specs.declared.kinds.Layer.TheVariants.{NestedList, Message, List as InList}
 use Rattle.side.specs.declared.kinds.Refusal.{Refusal}
 use Rattle.side.specs.Signals.{Contents, Heard, empty}
-use Rattle.carried.specs.Carried.{Five, five_in, parts_of, fault_of, progress_in, tag_place, bad_at, parts_bad_at, sooner}
+use Rattle.carried.specs.Carried.{Five, five_in, parts_of, fault_of, progress_in, tag_place, bad_at, parts_bad_at, sooner, earlier}
+pub use Rattle.carried.specs.Messages.{Said, numbered, there}
 use Rattle.isup_meaning.specs.declared.types.MessageType.{MessageType}
 use Rattle.isup_meaning.specs.declared.types.MessageType.TheVariants as type
+use Rattle.isup_meaning.specs.declared.types.UnknownType.{UnknownType as UnknownOctet}
 
 abbrev pub refusal : Reason → ℕ → Refusal
 refusal r p = record { reason = r; place = p; system = Isup; layer = Message }
@@ -44,6 +45,10 @@ type_in t =
     (cond (t == 0x0C) (Some type.Release)
     (cond (t == 0x10) (Some type.ReleaseComplete)
     (cond (t == 0x2C) (Some type.CallProgress) None))))))
+
+-- the type that an octet stands for, or the octet that stands for none
+abbrev pub type_or_unknown : ℕ → Result MessageType UnknownOctet
+type_or_unknown t = ok_or (type_in t) (record { 0 = t })
 
 abbrev pub type_octet : MessageType → ℕ
 type_octet type.InitialAddress = 0x01
@@ -120,12 +125,6 @@ abbrev pub nested_fault : ℕ → Result ℕ ListFault → Option Refusal
 nested_fault place (Ok n) = None
 nested_fault place (Err f) = Some (record { reason = Malformed; place = place; system = Isup; layer = NestedList })
 
--- of two refusals the one at the smaller place
-abbrev pub earlier : Option Refusal → Option Refusal → Option Refusal
-earlier None b = b
-earlier (Some a) None = Some a
-earlier (Some a) (Some b) = Some (cond (nat_le a.place b.place) a b)
-
 -- 4. The body: what the pointers reach
 
 pub record Body : Type 0 where
@@ -157,11 +156,6 @@ broken o t b =
     earlier (cond (has_field t) (field_fault o (field_pointer t)) None)
     (earlier (optional_fault o (list_pointer t)) (nested_fault b.access_at (checked dss1 b.access)))
 
--- what a message says
-pub record Said : Type 0 where
-  pub kind : Kind
-  pub contents : Contents
-
 abbrev pub five_of : Body → Five
 five_of b = five_in b.access b.user
 
@@ -169,11 +163,6 @@ abbrev pub progress_of : Body → Option (ℕ × ℕ)
 progress_of b = progress_in b.access
 
 -- a called number: nature of address, with bit 8 set for an odd count of signals; an octet that is ignored; the signals
-abbrev pub numbered : Option NumberType → Result (List ℕ) DigitFault → Option (NumberType × List ℕ)
-numbered None r = None
-numbered (Some t) (Err f) = None
-numbered (Some t) (Ok d) = Some (t, d)
-
 abbrev pub number_in : List ℕ → Option (NumberType × List ℕ)
 number_in [] = None
 number_in (a ∷ []) = None
@@ -189,9 +178,6 @@ medium_bearer m =
 abbrev pub or_bearer : Option (List ℕ) → List ℕ
 or_bearer None = []
 or_bearer (Some b) = b
-
-abbrev pub there : List ℕ → Bool
-there contents = nat_lt 0 (length contents)
 
 abbrev pub bearer_of : Body → List ℕ
 bearer_of b = cond (there b.bearer) b.bearer (or_bearer (medium_bearer (slice_index b.octets 7)))

@@ -22,9 +22,6 @@ impl MessageType {
     pub fn has_field(self) -> bool
         ensures { result ≡ has_field self }
     {
-        match self {
-            MessageType::InitialAddress | MessageType::Release => true,
-            _ => false,
-        }
+        matches!(self, MessageType::InitialAddress | MessageType::Release)
     }
 }

@@ -1,53 +1,34 @@
-//! The octets and the names of the types of message.
+//! The octets of the types of message.
 ghost use Rattle.std.specs.Prelude.{◌≡◌, ℕ};
-ghost use Rattle.isup_meaning.specs.Reading.{type_in, type_octet};
+ghost use Rattle.isup_meaning.specs.Reading.{type_or_unknown, type_octet};
 
-use crate::types::MessageType;
-use std::fmt;
+use crate::types::{MessageType, UnknownType};
 
-impl MessageType {
-    /// The type that an octet stands for.
-    pub fn from_octet(octet: u8) -> Option<MessageType>
-        ensures { result ≡ type_in octet }
-    {
+/// The type that an octet stands for.
+impl TryFrom<u8> for MessageType {
+    type Error = UnknownType;
+
+    ghost try_from_gives = { λ octet result. result ≡ type_or_unknown octet };
+
+    fn try_from(octet: u8) -> Result<MessageType, UnknownType> {
         match octet {
-            0x01 => Some(MessageType::InitialAddress),
-            0x06 => Some(MessageType::AddressComplete),
-            0x07 => Some(MessageType::Connect),
-            0x09 => Some(MessageType::Answer),
-            0x0C => Some(MessageType::Release),
-            0x10 => Some(MessageType::ReleaseComplete),
-            0x2C => Some(MessageType::CallProgress),
-            _ => None,
-        }
-    }
-
-    /// The octet that stands for this type.
-    pub fn octet(self) -> u8
-        ensures { result ≡ type_octet self }
-    {
-        match self {
-            MessageType::InitialAddress => 0x01,
-            MessageType::AddressComplete => 0x06,
-            MessageType::Connect => 0x07,
-            MessageType::Answer => 0x09,
-            MessageType::Release => 0x0C,
-            MessageType::ReleaseComplete => 0x10,
-            MessageType::CallProgress => 0x2C,
+            0x01 => Ok(MessageType::InitialAddress),
+            0x06 => Ok(MessageType::AddressComplete),
+            0x07 => Ok(MessageType::Connect),
+            0x09 => Ok(MessageType::Answer),
+            0x0C => Ok(MessageType::Release),
+            0x10 => Ok(MessageType::ReleaseComplete),
+            0x2C => Ok(MessageType::CallProgress),
+            _ => Err(UnknownType(octet)),
         }
     }
 }
 
-impl fmt::Display for MessageType {
-    fn fmt<W: fmt::Write>(&self, f: &mut fmt::Formatter<W>) -> fmt::Result {
-        match *self {
-            MessageType::InitialAddress => write!(f, "IAM"),
-            MessageType::AddressComplete => write!(f, "ACM"),
-            MessageType::Connect => write!(f, "CON"),
-            MessageType::Answer => write!(f, "ANM"),
-            MessageType::Release => write!(f, "REL"),
-            MessageType::ReleaseComplete => write!(f, "RLC"),
-            MessageType::CallProgress => write!(f, "CPG"),
-        }
+impl MessageType {
+    /// The octet that stands for this type.
+    pub fn octet(self) -> u8
+        ensures { result ≡ type_octet self }
+    {
+        self as u8
     }
 }

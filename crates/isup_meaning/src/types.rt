@@ -1,18 +1,47 @@
-/// The types of message on a trunk.
+use std::error::Error;
+use std::fmt;
+
+/// The types of message on a trunk, with the octet that stands for each.
 #[derive(Clone, Copy, PartialEq, Eq, Debug)]
 pub enum MessageType {
     /// IAM.
-    InitialAddress,
+    InitialAddress = 0x01,
     /// ACM.
-    AddressComplete,
+    AddressComplete = 0x06,
     /// CON.
-    Connect,
+    Connect = 0x07,
     /// ANM.
-    Answer,
+    Answer = 0x09,
     /// CPG.
-    CallProgress,
+    CallProgress = 0x2C,
     /// REL.
-    Release,
+    Release = 0x0C,
     /// RLC.
-    ReleaseComplete,
+    ReleaseComplete = 0x10,
 }
+
+/// An octet that stands for no type of message.
+#[derive(Clone, Copy, PartialEq, Eq, Debug)]
+pub struct UnknownType(pub u8);
+
+impl fmt::Display for MessageType {
+    fn fmt<W: fmt::Write>(&self, f: &mut fmt::Formatter<W>) -> fmt::Result {
+        f.write_str(match self {
+            MessageType::InitialAddress => "IAM",
+            MessageType::AddressComplete => "ACM",
+            MessageType::Connect => "CON",
+            MessageType::Answer => "ANM",
+            MessageType::Release => "REL",
+            MessageType::ReleaseComplete => "RLC",
+            MessageType::CallProgress => "CPG",
+        })
+    }
+}
+
+impl fmt::Display for UnknownType {
+    fn fmt<W: fmt::Write>(&self, f: &mut fmt::Formatter<W>) -> fmt::Result {
+        write!(f, "no type of message has octet {:02X}", self.0)
+    }
+}
+
+impl Error for UnknownType {}

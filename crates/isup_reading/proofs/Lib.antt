@@ -1,4 +1,2 @@
 pub mod Within
-pub mod Numbers
 pub mod Setups
-pub mod Wholes

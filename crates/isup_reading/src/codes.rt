@@ -1,4 +1,9 @@
 //! The tags of the optional list and the events of call progress, read and written alike.
+ghost use Rattle.std.specs.Prelude.{◌≡◌, ℕ};
+ghost use Rattle.isup_reading.specs.Events.{event_or_unknown, event_octet};
+
+use std::error::Error;
+use std::fmt;
 
 /// The tag of access transport in the optional list.
 pub const ACCESS: u8 = 0x03;
@@ -6,9 +11,51 @@ pub const ACCESS: u8 = 0x03;
 pub const BEARER: u8 = 0x1D;
 /// The tag of user-user.
 pub const USER: u8 = 0x20;
-/// The event of a call progress message that rings the called party.
-pub const ALERTING: u8 = 0x01;
-/// The event of progress.
-pub const PROGRESS: u8 = 0x02;
-/// The event of in-band information.
-pub const IN_BAND: u8 = 0x03;
+
+/// The events of call progress, with the octet that stands for each.
+#[derive(Clone, Copy, PartialEq, Eq, Debug)]
+pub enum Event {
+    /// The called party is rung.
+    Alerting = 0x01,
+    /// Something happened on the way.
+    Progress = 0x02,
+    /// In-band information, as an announcement.
+    InBand = 0x03,
+}
+
+/// An octet that stands for no event.
+#[derive(Clone, Copy, PartialEq, Eq, Debug)]
+pub struct UnknownEvent(pub u8);
+
+impl Event {
+    /// The octet that stands for this event.
+    pub fn octet(self) -> u8
+        ensures { result ≡ event_octet self }
+    {
+        self as u8
+    }
+}
+
+/// The event that an octet stands for.
+impl TryFrom<u8> for Event {
+    type Error = UnknownEvent;
+
+    ghost try_from_gives = { λ octet result. result ≡ event_or_unknown octet };
+
+    fn try_from(octet: u8) -> Result<Event, UnknownEvent> {
+        match octet {
+            0x01 => Ok(Event::Alerting),
+            0x02 => Ok(Event::Progress),
+            0x03 => Ok(Event::InBand),
+            _ => Err(UnknownEvent(octet)),
+        }
+    }
+}
+
+impl fmt::Display for UnknownEvent {
+    fn fmt<W: fmt::Write>(&self, f: &mut fmt::Formatter<W>) -> fmt::Result {
+        write!(f, "no event of call progress has octet {:02X}", self.0)
+    }
+}
+
+impl Error for UnknownEvent {}

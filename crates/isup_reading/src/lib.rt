@@ -3,4 +3,5 @@
 
 pub mod codes;
 mod layout;
+mod message;
 pub mod reading;

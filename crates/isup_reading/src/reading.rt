@@ -3,20 +3,22 @@ ghost use Rattle.std.specs.Prelude.{◌≡◌, ℕ, not, ◌||◌, is_some, is_o
 ghost use Rattle.std.specs.Option as Options;
 ghost use Rattle.values.specs.Bearers.{bearer_in};
 ghost use Rattle.side.specs.Contents as side;
-ghost use Rattle.side.specs.Signals.{read_as, bearer_of, progress_of};
+ghost use Rattle.side.specs.Signals as signals;
+ghost use Rattle.side.specs.Signals.{read_as, bearer_of};
 ghost use Rattle.side.specs.declared.kinds.Kind.TheVariants as kind;
 ghost use Rattle.values.specs.Causes.{cause_in};
-ghost use Rattle.carried.specs.Carried.{parts_of, bad_at};
-ghost use Rattle.isup_meaning.specs.Reading.{medium_bearer, number_in, there, five_of, parts_bad, backward_isdn, party_says, judged, setup_read, complete_read, event_read, progress_read, release_read, body_read, reads};
-ghost use Rattle.isup_reading.specs.Reads.{body_of, signal_as, both, refused_at, number_of, chosen_of};
+ghost use Rattle.carried.specs.Carried.{parts_of, bad_at, refused};
+ghost use Rattle.isup_meaning.specs.Reading.{medium_bearer, number_in, there, five_of, parts_bad, progress_of, backward_isdn, party_says, judged, setup_read, complete_read, event_read, progress_read, release_read, body_read, reads};
+ghost use Rattle.isup_reading.specs.Reads.{body_of, signal_as, bad_value, number_of};
 
-use crate::codes::{ALERTING, IN_BAND, PROGRESS};
-use crate::layout::{Body, HEAD, TYPE, body_in, broken, circuit, has_head, octet, refuse};
+use crate::codes::Event;
+use crate::layout::{Body, refuse};
+use crate::message::{Message, TYPE};
+use carried::both;
 use digits::unpack;
 use isup_meaning::types::MessageType;
 use side::contents::{Bearer, Cause, Number, Progress, Reading, Setup, Signal};
 use side::kinds::{Reason, Refusal};
-use side::leg::Leg;
 use side::parts::Parts;
 use values::NumberType;
 
@@ -35,26 +37,11 @@ const SUBSCRIBER_FREE: u8 = 1;
 /// The place of the event, in a call progress message.
 const EVENT: usize = 3;
 
-/// Both values, or the smaller of the places at which they are refused.
-fn both<A: Copy, B: Copy>(a: Result<A, usize>, b: Result<B, usize>) -> Result<(A, B), usize>
-    ensures { result ≡ both a b }
-{
-    match (a, b) {
-        (Ok(a), Ok(b)) => Ok((a, b)),
-        (Ok(_), Err(place)) => Err(place),
-        (Err(place), Ok(_)) => Err(place),
-        (Err(a), Err(b)) => Err(if a <= b { a } else { b }),
-    }
-}
-
 /// A bearer that is served.
 fn served(octets: &[u8]) -> Option<Bearer>
     ensures { Options.option_map bearer_of result ≡ (if is_ok (bearer_in octets.now) then Some octets.now else None) }
 {
-    match Bearer::read(octets) {
-        Ok(bearer) => Some(bearer),
-        Err(_) => None,
-    }
+    Bearer::read(octets).ok()
 }
 
 /// The bearer that a medium stands for.
@@ -70,14 +57,11 @@ fn medium_bearer(medium: u8) -> Option<Bearer>
 }
 
 /// The medium is refused at its place.
-fn medium(body: Body<'_>) -> Result<Bearer, usize>
-    ensures bad { refused_at result ≡ bad_at (is_some (medium_bearer (slice_index (body_of body.entry).octets 7))) 7 }
+fn medium(body: Body<'_>) -> Result<Bearer, Refusal>
+    ensures bad { refused result ≡ bad_value (bad_at (is_some (medium_bearer (slice_index (body_of body.entry).octets 7))) 7) }
     ensures value { IfOk result (λ b. Some (bearer_of b) ≡ medium_bearer (slice_index (body_of body.entry).octets 7)) }
 {
-    match medium_bearer(octet(body.octets, MEDIUM)) {
-        Some(bearer) => Ok(bearer),
-        None => Err(MEDIUM),
-    }
+    medium_bearer(body.message.octet(MEDIUM)).ok_or(refuse(Reason::BadValue, MEDIUM))
 }
 
 /// A called number: nature of address, with bit 8 set for an odd count of signals; an octet that is ignored; the
@@ -85,62 +69,45 @@ fn medium(body: Body<'_>) -> Result<Bearer, usize>
 fn called_number(field: &[u8]) -> Option<Number>
     ensures { Options.option_map number_of result ≡ number_in field.now }
 {
-    match field {
-        [nature, _plan, signals @ ..] => {
-            let kind = NumberType::from_nature(*nature % 128)?;
-            match unpack(signals, *nature >= 128) {
-                Ok(digits) => Some(Number { kind, digits }),
-                Err(_) => None,
-            }
-        }
-        _ => None,
-    }
+    let [nature, _plan, signals @ ..] = field else {
+        return None;
+    };
+    let kind = NumberType::from_nature(*nature % 128)?;
+    let digits = unpack(signals, *nature >= 128).ok()?;
+    Some(Number { kind, digits })
 }
 
 /// The number is refused at its pointer.
-fn number(body: Body<'_>) -> Result<Number, usize>
-    ensures bad { refused_at result ≡ bad_at (is_some (number_in (body_of body.entry).field)) 8 }
+fn number(body: Body<'_>) -> Result<Number, Refusal>
+    ensures bad { refused result ≡ bad_value (bad_at (is_some (number_in (body_of body.entry).field)) 8) }
     ensures value { IfOk result (λ n. Some (number_of n) ≡ number_in (body_of body.entry).field) }
 {
-    match called_number(body.field) {
-        Some(number) => Ok(number),
-        None => Err(NUMBER),
-    }
+    called_number(body.field).ok_or(refuse(Reason::BadValue, NUMBER))
 }
 
 /// A bearer that came is refused at its tag.
-fn bearer(body: Body<'_>) -> Result<Option<Bearer>, usize>
-    ensures bad { refused_at result ≡ bad_at (not (there (body_of body.entry).bearer) || is_ok (bearer_in (body_of body.entry).bearer)) (body_of body.entry).bearer_at }
+fn bearer(body: Body<'_>) -> Result<Option<Bearer>, Refusal>
+    ensures bad { refused result ≡ bad_value (bad_at (not (there (body_of body.entry).bearer) || is_ok (bearer_in (body_of body.entry).bearer)) (body_of body.entry).bearer_at) }
     ensures value { IfOk result (λ b. Options.option_map bearer_of b ≡ (if there (body_of body.entry).bearer then Some (body_of body.entry).bearer else None)) }
 {
-    if body.bearer.is_empty() {
+    if body.bearer.contents.is_empty() {
         return Ok(None);
     }
-    match served(body.bearer) {
-        Some(bearer) => Ok(Some(bearer)),
-        None => Err(body.places.bearer),
-    }
-}
-
-/// The bearer that came, else the one that the medium stands for.
-fn chosen(bearer: Option<Bearer>, medium: Bearer) -> Bearer
-    ensures { bearer_of result ≡ chosen_of bearer medium }
-{
-    match bearer {
-        Some(bearer) => bearer,
-        None => medium,
-    }
+    let bearer = served(body.bearer.contents).ok_or(refuse(Reason::BadValue, body.bearer.place))?;
+    Ok(Some(bearer))
 }
 
 /// The carried parts, refused at place 0 or at user-user's tag.
-fn parts(body: Body<'_>) -> Result<Parts, usize>
-    ensures bad { refused_at result ≡ parts_bad (body_of body.entry) }
+fn parts(body: Body<'_>) -> Result<Parts, Refusal>
+    ensures bad { refused result ≡ bad_value (parts_bad (body_of body.entry)) }
     ensures value { IfOk result (λ p. side.parts_of p ≡ parts_of (five_of (body_of body.entry))) }
 {
-    match carried::parts(body.access, Some(body.user)) {
-        Ok(parts) => Ok(parts),
-        Err(fault) => Err(carried::refused_at(fault, body.places.user)),
-    }
+    carried::parts(body.access.contents, Some(body.user.contents)).map_err(|fault| {
+        refuse(
+            Reason::BadValue,
+            carried::refused_at(fault, body.user.place),
+        )
+    })
 }
 
 /// What a setup says: it needs a number of at least two octets.
@@ -150,49 +117,45 @@ fn setup(body: Body<'_>) -> Result<Signal, Refusal>
     if body.field.len() < 2 {
         return Err(refuse(Reason::Missing, 0));
     }
-    match both(
+    let (medium, (number, (bearer, parts))) = both(
         medium(body),
         both(number(body), both(bearer(body), parts(body))),
-    ) {
-        Ok(values) => {
-            let (medium, (number, (bearer, parts))) = values;
-            Ok(Signal::Setup(Setup {
-                bearer: chosen(bearer, medium),
-                number,
-                progress: carried::progress(body.access),
-                isdn: octet(body.octets, SECOND_FORWARD) % 2 == 1,
-                parts,
-            }))
-        }
-        Err(place) => Err(refuse(Reason::BadValue, place)),
-    }
+    )?;
+    Ok(Signal::Setup(Setup {
+        bearer: bearer.unwrap_or(medium),
+        number,
+        progress: progress(body),
+        isdn: body.message.octet(SECOND_FORWARD) % 2 == 1,
+        parts,
+    }))
 }
 
 /// What a message says that rings the called party.
 fn alerting(body: Body<'_>, isdn: bool) -> Result<Signal, Refusal>
     ensures { signal_as result ≡ judged (parts_bad (body_of body.entry)) kind.Alerting (party_says isdn (body_of body.entry)) }
 {
-    match parts(body) {
-        Ok(parts) => Ok(Signal::Alerting(carried::progress(body.access), isdn, parts)),
-        Err(place) => Err(refuse(Reason::BadValue, place)),
-    }
+    Ok(Signal::Alerting(progress(body), isdn, parts(body)?))
 }
 
 /// What a message says by which the called party answers.
 fn answer(body: Body<'_>, isdn: bool) -> Result<Signal, Refusal>
     ensures { signal_as result ≡ judged (parts_bad (body_of body.entry)) kind.Answer (party_says isdn (body_of body.entry)) }
 {
-    match parts(body) {
-        Ok(parts) => Ok(Signal::Answer(carried::progress(body.access), isdn, parts)),
-        Err(place) => Err(refuse(Reason::BadValue, place)),
-    }
+    Ok(Signal::Answer(progress(body), isdn, parts(body)?))
+}
+
+/// Progress in access transport.
+fn progress(body: Body<'_>) -> Option<Progress>
+    ensures { Options.option_map signals.progress_of result ≡ progress_of (body_of body.entry) }
+{
+    carried::progress(body.access.contents)
 }
 
 /// The ISDN indicator of a message that goes backward.
 fn backward_isdn(body: Body<'_>) -> bool
     ensures { result ≡ backward_isdn (body_of body.entry) }
 {
-    octet(body.octets, SECOND_BACKWARD) / 16 % 2 == 1
+    body.message.octet(SECOND_BACKWARD) / 16 % 2 == 1
 }
 
 /// An address complete message rings if the subscriber is free.
@@ -200,38 +163,35 @@ fn complete(body: Body<'_>) -> Result<Signal, Refusal>
     ensures { signal_as result ≡ complete_read (body_of body.entry) }
 {
     let isdn = backward_isdn(body);
-    if octet(body.octets, FIRST_BACKWARD) / 4 % 4 == SUBSCRIBER_FREE {
+    if body.message.octet(FIRST_BACKWARD) / 4 % 4 == SUBSCRIBER_FREE {
         alerting(body, isdn)
     } else {
-        Ok(Signal::Complete(carried::progress(body.access), isdn))
+        Ok(Signal::Complete(progress(body), isdn))
     }
 }
 
 /// An event of progress says something only with its indicator.
 fn progress_event(progress: Option<Progress>) -> Result<Signal, Refusal>
-    ensures { signal_as result ≡ event_read (Options.option_map progress_of progress) }
+    ensures { signal_as result ≡ event_read (Options.option_map signals.progress_of progress) }
 {
-    match progress {
-        Some(progress) => Ok(Signal::Progress(progress, true)),
-        None => Ok(Signal::Quiet),
-    }
+    Ok(progress.map_or(Signal::Quiet, |progress| Signal::Progress(progress, true)))
 }
 
 /// A call progress message says what its event is; in-band information is progress whatever indicator came.
 fn event(body: Body<'_>) -> Result<Signal, Refusal>
     ensures { signal_as result ≡ progress_read (body_of body.entry) }
 {
-    match octet(body.octets, EVENT) % 128 {
-        ALERTING => alerting(body, true),
-        PROGRESS => progress_event(carried::progress(body.access)),
-        IN_BAND => Ok(Signal::Progress(
+    match Event::try_from(body.message.octet(EVENT) % 128) {
+        Ok(Event::Alerting) => alerting(body, true),
+        Ok(Event::Progress) => progress_event(progress(body)),
+        Ok(Event::InBand) => Ok(Signal::Progress(
             Progress {
                 location: 0x82,
                 description: 0x88,
             },
             true,
         )),
-        _ => Err(refuse(Reason::BadValue, EVENT)),
+        Err(_) => Err(refuse(Reason::BadValue, EVENT)),
     }
 }
 
@@ -239,13 +199,8 @@ fn event(body: Body<'_>) -> Result<Signal, Refusal>
 fn release(body: Body<'_>) -> Result<Signal, Refusal>
     ensures { signal_as result ≡ release_read (cause_in (body_of body.entry).field) (body_of body.entry) }
 {
-    let Some(cause) = Cause::read(body.field) else {
-        return Err(refuse(Reason::Missing, 0));
-    };
-    match parts(body) {
-        Ok(parts) => Ok(Signal::Clear(cause, parts)),
-        Err(place) => Err(refuse(Reason::BadValue, place)),
-    }
+    let cause = Cause::read(body.field).ok_or(refuse(Reason::Missing, 0))?;
+    Ok(Signal::Clear(cause, parts(body)?))
 }
 
 /// What the body of a message says.
@@ -267,26 +222,14 @@ fn signal(kind: MessageType, body: Body<'_>) -> Result<Signal, Refusal>
 pub fn read(legs: usize, message: &[u8]) -> Result<Reading, Refusal>
     ensures { read_as result ≡ reads legs message.now }
 {
-    if !has_head(message) {
-        return Err(refuse(Reason::Malformed, 0));
-    }
-    let Some(kind) = MessageType::from_octet(message[TYPE]) else {
-        return Err(refuse(Reason::UnknownType, TYPE));
-    };
-    let Some(leg) = Leg::among(circuit(message), legs) else {
-        return Err(refuse(Reason::NoSuchLeg, 0));
-    };
-    if message.len() < HEAD + kind.fixed_count() {
-        return Err(refuse(Reason::Malformed, 0));
-    }
-    let body = body_in(message, kind);
-    if let Some(refusal) = broken(message, kind, body) {
-        return Err(refusal);
-    }
+    let message = Message::new(message)?;
+    let kind = message.kind()?;
+    let leg = message.leg(legs)?;
+    let body = Body::whole(message, kind)?;
     let signal = signal(kind, body)?;
     Ok(Reading {
         leg,
-        heard: message[TYPE],
+        heard: message.octet(TYPE),
         signal,
     })
 }

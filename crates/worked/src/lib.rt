@@ -4,8 +4,6 @@
 ghost use Rattle.worked.specs.Messages.{WorkedMessages};
 
 /// The tables give these octets for these messages.
-pub fn worked_messages() -> u8
+pub fn worked_messages()
     ensures { WorkedMessages }
-{
-    0
-}
+{}

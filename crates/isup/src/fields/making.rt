@@ -1,14 +1,18 @@
+//! Progress, causes and numbers as octets, held by value until the message is written.
 ghost use Rattle.std.specs.Prelude.{◌≡◌, ℕ, ◌≤◌, length, Some, ◌==◌};
 ghost use Rattle.std.specs.Option.{option_map};
+ghost use Rattle.held.specs.Held.{octets_of};
 ghost use Rattle.side.specs.Signals.{progress_of, cause_of, described};
 ghost use Rattle.carried.specs.Carried.{progress_octets, cause_octets};
+ghost use Rattle.carried.specs.Messages.{number_of};
 ghost use Rattle.isup_meaning.specs.Writing.{but_in_band, number_field, odd_bit};
-ghost use Rattle.isup_reading.specs.Reads.{number_of};
-ghost use Rattle.isup.specs.Writes.{with_length, piece_of};
+ghost use Rattle.isup.specs.Writes.{with_length};
 
-use super::{MOST, Piece};
+use held::Held;
 use side::contents::{Cause, Number, Progress};
 
+/// The most octets of a field: a number's length, its two leading octets and its signals.
+const MOST: usize = 14;
 /// What progress describes as in-band information, which is never said in access transport.
 const IN_BAND: u8 = 8;
 /// The numbering plan of every number.
@@ -16,24 +20,14 @@ const TELEPHONY: u8 = 0x10;
 /// Where a number's signals begin: behind its length, its nature of address and its plan.
 const SIGNALS: usize = 3;
 
-impl Piece {
-    /// A piece with these octets.
-    fn of(contents: &[u8]) -> Piece
-        requires { length contents.now ≤ 14 }
-        ensures { piece_of result ≡ contents.now }
-    {
-        let mut octets = [0u8; MOST];
-        let count = contents.len();
-        octets[0..count].copy_from_slice(contents);
-        Piece { octets, count }
-    }
-
-    /// Its octets.
-    pub(crate) fn as_octets(&self) -> &[u8]
-        ensures value { result.now ≡ piece_of self.now }
-        ensures short { length result.now ≤ 14 }
-    {
-        &self.octets[0..self.count]
+/// These octets, held by value.
+fn held<const N: usize>(octets: &[u8]) -> Held<N>
+    requires { length octets.now ≤ N }
+    ensures { octets_of result ≡ octets.now }
+{
+    match Held::of(octets) {
+        Some(held) => held,
+        None => unreachable(),
     }
 }
 
@@ -45,27 +39,22 @@ pub(crate) fn is_in_band(progress: Progress) -> bool
 }
 
 /// The octets of progress, if it is said.
-pub(crate) fn progress_piece(progress: Option<Progress>) -> Piece
-    ensures value { piece_of result ≡ progress_octets (but_in_band (option_map progress_of progress)) }
-    ensures few { length (piece_of result) ≤ 2 }
+pub(crate) fn progress_octets(progress: Option<Progress>) -> Held<2>
+    ensures { octets_of result ≡ progress_octets (but_in_band (option_map progress_of progress)) }
 {
     match progress {
-        Some(progress) => {
-            if is_in_band(progress) {
-                Piece::of(&[])
-            } else {
-                Piece::of(&[progress.location, progress.description])
-            }
+        Some(progress) if !is_in_band(progress) => {
+            held(&[progress.location, progress.description])
         }
-        None => Piece::of(&[]),
+        _ => Held::none(),
     }
 }
 
 /// A cause with its length.
-pub(crate) fn cause_piece(cause: Cause) -> Piece
-    ensures { piece_of result ≡ with_length (cause_octets (Some (cause_of cause))) }
+pub(crate) fn cause_field(cause: Cause) -> Held<14>
+    ensures { octets_of result ≡ with_length (cause_octets (Some (cause_of cause))) }
 {
-    Piece::of(&[2, 0x80 + cause.location(), 0x80 + cause.value()])
+    held(&[2, 0x80 + cause.location(), 0x80 + cause.value()])
 }
 
 /// The bit that tells an odd count of signals.
@@ -76,20 +65,15 @@ fn odd_bit(odd: bool) -> u8
 }
 
 /// A number with its length: nature of address with the odd bit, plan, signals.
-pub(crate) fn number_piece(number: &Number) -> Piece
-    ensures { piece_of result ≡ with_length (number_field (Some (number_of number.now))) }
+pub(crate) fn number_field(number: &Number) -> Held<14>
+    ensures { octets_of result ≡ with_length (number_field (Some (number_of number.now))) }
 {
-    let signals = number.digits.packed_len();
     let mut octets = [0u8; MOST];
-    match number.digits.pack(&mut octets[SIGNALS..]) {
-        Ok(_) => {}
-        Err(_) => unreachable(),
-    }
+    let Ok(signals) = number.digits.pack(&mut octets[SIGNALS..]) else {
+        unreachable()
+    };
     octets[0] = 2 + signals as u8;
     octets[1] = number.kind.nature() + odd_bit(number.digits.signals_odd());
     octets[2] = TELEPHONY;
-    Piece {
-        octets,
-        count: SIGNALS + signals,
-    }
+    held(&octets[..SIGNALS + signals])
 }
