@@ -1,9 +1,9 @@
 //! The header of a DSS 1 message: protocol discriminator, reference and type.
 ghost use Rattle.std.specs.Result.{MatchResult};
-ghost use Rattle.inspect.specs.Header.{Headed, Headless};
+ghost use Rattle.inspection.specs.Header.{Headed, Headless};
 
-use crate::names;
 use std::fmt;
+use wording::names;
 
 /// A DSS 1 message taken apart.
 #[derive(Clone, Copy)]

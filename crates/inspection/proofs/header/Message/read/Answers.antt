@@ -1,7 +1,7 @@
 use Rattle.std.proofs.Common.{◌≡◌, ℕ, ◌+◌, ◌%◌, ◌<◌, ◌≤◌, cond, leb, List, [], ◌∷◌, length, get_or, drop, sym, refl, ap, ◌∙◌, arith, rules}
 use Rattle.std.proofs.lemmas.List.{take_rest}
 use Rattle.std.proofs.lemmas.Bool.Decides.{nat_tests}
-use Rattle.inspect_sides.proofs.header.Message.read.Goals as goal
+use Rattle.inspection.proofs.header.Message.read.Goals as goal
 
 -- octets by their first four
 four : (xs : List ℕ) → 4 ≤ length xs → get_or xs 0 0 ≡ 8 → get_or xs 1 0 ≡ 1 → xs ≡ 8 ∷ 1 ∷ get_or xs 2 0 ∷ get_or xs 3 0 ∷ drop 4 xs

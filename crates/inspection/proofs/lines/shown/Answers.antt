@@ -1,6 +1,6 @@
 use Rattle.std.proofs.Common.{sym, arith}
 use Rattle.std.proofs.lemmas.List.{take_all, length-take-le}
-use Rattle.inspect_sides.proofs.shown.Goals as goal
+use Rattle.inspection.proofs.lines.shown.Goals as goal
 
 pub slice_bounds-result-end : goal.slice_bounds-result-end
 slice_bounds-result-end c = sym (length-take-le 32 c.args.word.now (omega arith))

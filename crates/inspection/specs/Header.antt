@@ -1,8 +1,8 @@
 -- What the first octets of a DSS 1 message say: 08, 01, reference with its flag, type.
 -- Rests on lists of octets; the faults are those of the source.
 use Rattle.std.specs.Prelude.{◌≡◌, ℕ, ◌+◌, ◌<◌, Bool, cond, List, ◌∷◌, length, take, ◌≢◌, slice_index}
-use Rattle.inspect_sides.specs.declared.header.HeaderFault.{HeaderFault}
-use Rattle.inspect_sides.specs.declared.header.HeaderFault.TheVariants.{NotDss1, ReferenceLength, BreaksOff}
+use Rattle.inspection.specs.declared.header.HeaderFault.{HeaderFault}
+use Rattle.inspection.specs.declared.header.HeaderFault.TheVariants.{NotDss1, ReferenceLength, BreaksOff}
 
 -- a message with a header: its octets are those that its parts stand for
 pub record Headed (octets : List ℕ) (reference : ℕ) (toOrigin : Bool) (kind : ℕ) (header list : List ℕ) : Type 0 where

@@ -1,4 +1,5 @@
 //! What the contents of an element say, in words.
+use crate::types::Characters;
 use digits::{DigitFault, Digits};
 use elements::{Coding, Dss1, Isup};
 use std::fmt;
@@ -12,8 +13,8 @@ pub enum Meaning {
     Plain,
     /// Less than the element has to have.
     CutShort,
-    /// A number: its type, or the code of a type that is none, and its digits.
-    Number(Result<NumberType, u8>, Result<Digits, DigitFault>),
+    /// A number: its type and its digits.
+    Number(Result<NumberType, NoType>, Result<Digits, DigitFault>),
     /// A cause: location and value.
     Cause(u8, u8),
     /// A progress: location and description.
@@ -21,6 +22,10 @@ pub enum Meaning {
     /// What a connection has to carry.
     Bearer(Result<Capability, BearerFault>),
 }
+
+/// A code that is no type of number.
+#[derive(Clone, Copy)]
+pub struct NoType(u8);
 
 /// A coding whose elements have names and meanings.
 pub trait Described: Coding {
@@ -64,10 +69,11 @@ impl Described for Isup {
 
 /// A cause, of either coding.
 fn cause(contents: &[u8]) -> Meaning {
-    match values::cause(contents) {
-        Some((location, value)) => Meaning::Cause(location, value),
-        None => Meaning::CutShort,
-    }
+    let read = values::cause(contents);
+    read.map_or(
+        Meaning::CutShort,
+        |(location, value)| Meaning::Cause(location, value),
+    )
 }
 
 /// A progress indicator.
@@ -92,12 +98,9 @@ fn dialled_number(contents: &[u8]) -> Meaning {
     }
 }
 
-/// The type of number in the first octet, or its code where that is none.
-fn type_in(first: u8) -> Result<NumberType, u8> {
-    match values::number_type(first) {
-        Some(kind) => Ok(kind),
-        None => Err(first / 16 % 8),
-    }
+/// The type of number in the first octet.
+fn type_in(first: u8) -> Result<NumberType, NoType> {
+    values::number_type(first).ok_or(NoType(first / 16 % 8))
 }
 
 /// A number whose digits are packed two to an octet: odd count and nature of address, plan and presentation, digits.
@@ -106,40 +109,8 @@ fn packed_number(contents: &[u8]) -> Meaning {
         return Meaning::CutShort;
     };
     let nature = *first % 128;
-    let kind = match NumberType::from_nature(nature) {
-        Some(kind) => Ok(kind),
-        None => Err(nature),
-    };
+    let kind = NumberType::from_nature(nature).ok_or(NoType(nature));
     Meaning::Number(kind, digits::unpack(packed, *first >= 0x80))
-}
-
-/// A count of octets in words.
-#[derive(Clone, Copy)]
-pub struct Count(pub usize);
-
-impl fmt::Display for Count {
-    fn fmt<W: fmt::Write>(&self, f: &mut fmt::Formatter<W>) -> fmt::Result {
-        match self.0 {
-            1 => write!(f, "1 octet"),
-            n => write!(f, "{n} octets"),
-        }
-    }
-}
-
-/// Octets that are shown as characters; what is no printing character is shown in hex.
-#[derive(Clone, Copy)]
-pub struct Characters<'a>(pub &'a [u8]);
-
-impl fmt::Display for Characters<'_> {
-    fn fmt<W: fmt::Write>(&self, f: &mut fmt::Formatter<W>) -> fmt::Result {
-        for octet in self.0 {
-            match *octet {
-                b' '..=b'~' => write!(f, "{}", char::from(*octet))?,
-                other => write!(f, "\\x{other:02X}")?,
-            }
-        }
-        Ok(())
-    }
 }
 
 impl fmt::Display for Meaning {
@@ -148,8 +119,14 @@ impl fmt::Display for Meaning {
             Meaning::Plain => write!(f, "not read"),
             Meaning::CutShort => write!(f, "too short for what it is"),
             Meaning::Number(kind, digits) => {
-                show_type(kind, f)?;
-                show_digits(digits, f)
+                match kind {
+                    Ok(kind) => write!(f, "{kind}")?,
+                    Err(none) => write!(f, "{none}")?,
+                }
+                match digits {
+                    Ok(digits) => write!(f, ", digits {}", Characters(digits.as_octets())),
+                    Err(fault) => write!(f, "; outside the rule: {}", FromOne(fault)),
+                }
             }
             Meaning::Cause(location, value) => {
                 let words = names::cause(value);
@@ -170,35 +147,21 @@ impl fmt::Display for Meaning {
     }
 }
 
-/// The type of a number in words.
-fn show_type<W: fmt::Write>(
-    kind: Result<NumberType, u8>,
-    f: &mut fmt::Formatter<W>,
-) -> fmt::Result {
-    match kind {
-        Ok(kind) => write!(f, "{kind}"),
-        Err(code) => write!(f, "number of no known type, code {code}"),
+impl fmt::Display for NoType {
+    fn fmt<W: fmt::Write>(&self, f: &mut fmt::Formatter<W>) -> fmt::Result {
+        write!(f, "number of no known type, code {}", self.0)
     }
 }
 
-/// The digits of a number, or why there are none.
-fn show_digits<W: fmt::Write>(
-    digits: Result<Digits, DigitFault>,
-    f: &mut fmt::Formatter<W>,
-) -> fmt::Result {
-    match digits {
-        Ok(digits) => write!(f, ", digits {}", Characters(digits.as_octets())),
-        Err(fault) => show_stray(fault, f),
-    }
-}
+/// Why a number has no digits, where a stray one is counted from 1.
+#[derive(Clone, Copy)]
+struct FromOne(DigitFault);
 
-/// Why a number has no digits; a stray one is counted from 1.
-fn show_stray<W: fmt::Write>(fault: DigitFault, f: &mut fmt::Formatter<W>) -> fmt::Result {
-    match fault {
-        DigitFault::NotADigit(at) => {
-            let nth = at.saturating_add(1);
-            write!(f, "; outside the rule: digit {nth} is none")
+impl fmt::Display for FromOne {
+    fn fmt<W: fmt::Write>(&self, f: &mut fmt::Formatter<W>) -> fmt::Result {
+        match self.0 {
+            DigitFault::NotADigit(at) => write!(f, "digit {} is none", at.saturating_add(1)),
+            fault => write!(f, "{fault}"),
         }
-        other => write!(f, "; outside the rule: {other}"),
     }
 }
