@@ -1,2 +1,2 @@
-pub mod Looks
 pub mod Steps
+pub mod Stands

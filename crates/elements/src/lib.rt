@@ -3,15 +3,17 @@
 //! One text serves every coding; a coding fixes how its lists end.
 #![tactic(auto)]
 
-ghost use Rattle.std.specs.Prelude.{◌≡◌, ℕ, ◌+◌, ◌-◌, ◌<◌, ◌≤◌, true, false, length, take, drop, Some, None, MatchOption};
+ghost use Rattle.std.specs.Prelude.{◌≡◌, ℕ, ◌+◌, ◌-◌, ◌<◌, ◌≤◌, Bool, true, false, Option, length, take, drop, refl, Some, None, MatchOption};
 ghost use Rattle.std.specs.Option.{option_map};
+ghost use Rattle.std.specs.Iterator.{at_most};
 ghost use Rattle.elements.specs.declared.types.EndRule.{EndRule};
 ghost use Rattle.elements.specs.declared.types.Seen.TheVariants.{Nothing, End, Single, Element, Broken};
-ghost use Rattle.elements.specs.Elements.{ends_list, stands_alone, seen, walk, item_in, place_of, contents_of, checked};
+ghost use Rattle.elements.specs.Places.{Stops, StandsAt, size_of, walk_from};
+ghost use Rattle.elements.specs.Elements.{ends_list, stands_alone, seen, walk, item_in, place_of, contents_of, ran_out_at, verdict, checked};
 
 pub mod types;
 
-use types::{EndRule, ListFault, Seen};
+use types::{EndRule, ListElement, ListFault, Seen};
 
 /// A coding of element lists.
 pub trait Coding: Copy {
@@ -20,11 +22,23 @@ pub trait Coding: Copy {
     /// Whether a tag of 80 hex or more is a whole element of one octet.
     const SINGLES: bool;
 
+    ghost END: { Option ℕ };
+
+    ghost SINGLES: { Bool };
+
     ghost rule: { EndRule };
 
     /// The two constants together, as code that is generic over the coding knows them.
     fn end_rule() -> EndRule
-        ensures { result ≡ rule };
+        ensures { result ≡ rule }
+    {
+        EndRule {
+            end: Self::END,
+            singles: Self::SINGLES,
+        }
+    }
+
+    ghost of_constants: { rule ≡ record { end = END; singles = SINGLES } };
 }
 
 /// The information elements of DSS 1: no end tag, and one-octet elements from tag 80 hex.
@@ -36,14 +50,13 @@ impl Coding for Dss1 {
 
     const SINGLES: bool = true;
 
+    ghost END = { None };
+
+    ghost SINGLES = { true };
+
     ghost rule = { record { end = None; singles = true } };
 
-    fn end_rule() -> EndRule {
-        EndRule {
-            end: Self::END,
-            singles: Self::SINGLES,
-        }
-    }
+    ghost of_constants = { refl };
 }
 
 /// The optional parameters of ISUP: tag 00 ends the list.
@@ -55,14 +68,13 @@ impl Coding for Isup {
 
     const SINGLES: bool = false;
 
+    ghost END = { Some 0 };
+
+    ghost SINGLES = { false };
+
     ghost rule = { record { end = Some 0; singles = false } };
 
-    fn end_rule() -> EndRule {
-        EndRule {
-            end: Self::END,
-            singles: Self::SINGLES,
-        }
-    }
+    ghost of_constants = { refl };
 }
 
 impl EndRule {
@@ -83,31 +95,46 @@ impl EndRule {
         self.singles && tag >= 0x80
     }
 
+    /// The length of a list whose octets run out at a place; or the fault that its end tag is missing.
+    fn ran_out(self, place: usize) -> Result<usize, ListFault>
+        ensures { result ≡ ran_out_at self.end place }
+    {
+        match self.end {
+            Some(_) => Err(ListFault::NoEnd(place)),
+            None => Ok(place),
+        }
+    }
+
     /// What stands at a place.
     fn look(self, list: &[u8], place: usize) -> Seen
         ensures seen { result ≡ seen self (drop place list.now) }
         ensures within { elim result [ Nothing ↦ length list.now ≤ place | End ↦ place < length list.now | Single ↦ place < length list.now | Element n ↦ place + 2 + n ≤ length list.now | Broken ↦ place < length list.now ] }
     {
-        if place >= list.len() {
-            return Seen::Nothing;
+        match list.get(place..).unwrap_or(&[]) {
+            [] => Seen::Nothing,
+            [tag, ..] if self.ends_list(*tag) => Seen::End,
+            [tag, ..] if self.stands_alone(*tag) => Seen::Single,
+            [_, n, contents @ ..] if usize::from(*n) <= contents.len() => {
+                Seen::Element(usize::from(*n))
+            }
+            _ => Seen::Broken,
         }
-        let tag = list[place];
-        if self.ends_list(tag) {
-            return Seen::End;
-        }
-        if self.stands_alone(tag) {
-            return Seen::Single;
-        }
-        let after = list.len() - place - 1;
-        if after == 0 {
-            return Seen::Broken;
-        }
-        let n = list[place + 1] as usize;
-        if n < after {
-            Seen::Element(n)
-        } else {
-            Seen::Broken
-        }
+    }
+
+    /// The whole element at a place.
+    fn element_at<'a>(self, list: &'a [u8], place: usize) -> Option<ListElement<'a>>
+        ensures { MatchOption result (Stops (seen self (drop place list.now))) (StandsAt self list.now place) }
+    {
+        let contents = match self.look(list, place) {
+            Seen::Single => None,
+            Seen::Element(n) => Some(&list[place + 2..place + 2 + n]),
+            Seen::Nothing | Seen::End | Seen::Broken => return None,
+        };
+        Some(ListElement {
+            place,
+            tag: list[place],
+            contents,
+        })
     }
 }
 
@@ -119,46 +146,81 @@ pub fn look<C: Coding>(list: &[u8], place: usize) -> Seen
     C::end_rule().look(list, place)
 }
 
-/// The first element with a wanted tag and at least one octet of contents: its place, and how many octets it holds.
-fn first<C: Coding>(list: &[u8], wanted: u8) -> Option<(usize, usize)>
-    ensures { MatchOption result (item_in wanted (walk C.rule 0 0 list.now) ≡ None) (λ x. (x.0 + 2 + x.1 ≤ length list.now) × (item_in wanted (walk C.rule 0 0 list.now) ≡ Some (record { place = x.0; tag = wanted; contents = take x.1 (drop (x.0 + 2) list.now) }))) }
-{
-    let rule = C::end_rule();
-    let mut p = 0;
-    loop {
-        match rule.look(list, p) {
-            Seen::Nothing => return None,
-            Seen::End => return None,
-            Seen::Single => p += 1,
-            Seen::Element(n) => {
-                if list[p] == wanted && n > 0 {
-                    return Some((p, n));
-                }
-                p += 2 + n;
-            }
-            Seen::Broken => return None,
+/// The whole elements of a list, one by one, as far as its end or its first fault.
+#[derive(Drop)]
+pub struct Elements<'a> {
+    rule: EndRule,
+    list: &'a [u8],
+    place: usize,
+}
+
+impl<'a> Elements<'a> {
+    /// The elements of a list.
+    pub fn of<C: Coding>(list: &'a [u8]) -> Elements<'a>
+        ensures { (result.rule ≡ C.rule) × (result.list.now ≡ list.now) × (result.place ≡ 0) }
+    {
+        Elements {
+            rule: C::end_rule(),
+            list,
+            place: 0,
         }
     }
+
+    /// Passes over the elements that are left: the length of the list, its end tag counted, or what is wrong with it.
+    pub fn end(mut self) -> Result<usize, ListFault>
+        ensures { result ≡ verdict self.entry.rule (walk_from self.entry.rule self.entry.list.now self.entry.place) }
+    {
+        while self.next().is_some() {}
+        match self.rule.look(self.list, self.place) {
+            Seen::End => Ok(self.place + 1),
+            Seen::Broken => Err(ListFault::BreaksOff(self.place)),
+            // No whole element stands here, so the octets ran out.
+            _ => self.rule.ran_out(self.place),
+        }
+    }
+}
+
+impl<'a> Iterator for Elements<'a> {
+    type Item = ListElement<'a>;
+
+    ghost remaining = { λ s. at_most (length s.list.now - s.place) };
+
+    ghost next_gives = { λ s r t. (t.rule ≡ s.rule) × (t.list.now ≡ s.list.now) × MatchOption r ((t.place ≡ s.place) × Stops (seen s.rule (drop s.place s.list.now))) (λ e. StandsAt s.rule s.list.now s.place e × (t.place ≡ s.place + size_of e)) };
+
+    fn next(&mut self) -> Option<ListElement<'a>> {
+        let element = self.rule.element_at(self.list, self.place)?;
+        self.place += element.size();
+        Some(element)
+    }
+}
+
+/// The place and the contents of the first element with a wanted tag and at least one octet of contents.
+fn first<'a, C: Coding>(list: &'a [u8], wanted: u8) -> Option<(usize, &'a [u8])>
+    ensures { option_map (λ x. record { place = x.0; tag = wanted; contents = x.1.now }) result ≡ item_in wanted (walk C.rule 0 0 list.now) }
+{
+    for element in Elements::of::<C>(list) {
+        match element.contents {
+            Some(contents) if element.tag == wanted && !contents.is_empty() => {
+                return Some((element.place, contents));
+            }
+            _ => {}
+        }
+    }
+    None
 }
 
 /// The place of the first element with a wanted tag and at least one octet of contents, or none.
 pub fn find<C: Coding>(list: &[u8], wanted: u8) -> Option<usize>
     ensures { result ≡ place_of C.rule wanted list.now }
 {
-    match first::<C>(list, wanted) {
-        Some((place, _)) => Some(place),
-        None => None,
-    }
+    first::<C>(list, wanted).map(|(place, _)| place)
 }
 
 /// The contents of that element.
 pub fn contents<'a, C: Coding>(list: &'a [u8], wanted: u8) -> Option<&'a [u8]>
     ensures { option_map (λ x. x.now) result ≡ contents_of C.rule wanted list.now }
 {
-    match first::<C>(list, wanted) {
-        Some((place, n)) => Some(&list[place + 2..place + 2 + n]),
-        None => None,
-    }
+    first::<C>(list, wanted).map(|(_, contents)| contents)
 }
 
 /// The length of a list of which every element is whole and the end is where it must be, its end tag
@@ -166,20 +228,5 @@ pub fn contents<'a, C: Coding>(list: &'a [u8], wanted: u8) -> Option<&'a [u8]>
 pub fn check<C: Coding>(list: &[u8]) -> Result<usize, ListFault>
     ensures { result ≡ checked C.rule list.now }
 {
-    let rule = C::end_rule();
-    let mut p = 0;
-    loop {
-        match rule.look(list, p) {
-            Seen::Nothing => {
-                return match rule.end {
-                    Some(_) => Err(ListFault::NoEnd(p)),
-                    None => Ok(p),
-                };
-            }
-            Seen::End => return Ok(p + 1),
-            Seen::Single => p += 1,
-            Seen::Element(n) => p += 2 + n,
-            Seen::Broken => return Err(ListFault::BreaksOff(p)),
-        }
-    }
+    Elements::of::<C>(list).end()
 }

@@ -1,3 +1,10 @@
+ghost use Rattle.std.specs.Prelude.{◌≡◌, ◌<◌, ◌^◌, Some};
+ghost use Rattle.elements.specs.Places.{size_of};
+ghost use Rattle.elements.specs.Faults.{fault_place, fault_behind, fault_text};
+
+use std::error::Error;
+use std::fmt;
+
 /// How a list of elements ends, and which of its tags stand alone.
 #[derive(Clone, Copy, PartialEq, Eq, Debug)]
 pub struct EndRule {
@@ -22,6 +29,17 @@ pub enum Seen {
     Broken,
 }
 
+/// A whole element of a list.
+#[derive(Clone, Copy)]
+pub struct ListElement<'a> {
+    /// The place of its tag.
+    pub place: usize,
+    /// Its tag.
+    pub tag: u8,
+    /// Its contents; none, where the tag is the whole element.
+    pub contents: Option<&'a [u8]>,
+}
+
 /// Why a list is not whole, with the place.
 #[derive(Clone, Copy, PartialEq, Eq, Debug)]
 pub enum ListFault {
@@ -30,3 +48,54 @@ pub enum ListFault {
     /// Every element is whole and the end tag is missing; the place is where it should stand.
     NoEnd(usize),
 }
+
+impl ListElement<'_> {
+    /// How many octets it takes.
+    pub(crate) fn size(self) -> usize
+        requires { size_of self < 2 ^ 64 }
+        ensures { result ≡ size_of self.entry }
+    {
+        self.contents.map_or(1, |contents| 2 + contents.len())
+    }
+}
+
+impl ListFault {
+    /// The place of the fault.
+    pub fn place(self) -> usize
+        ensures { result ≡ fault_place self }
+    {
+        match self {
+            ListFault::BreaksOff(place) | ListFault::NoEnd(place) => place,
+        }
+    }
+
+    /// The same fault where so many octets stand before the list: its place is counted from the first of them.
+    pub fn behind(self, start: usize) -> ListFault
+        ensures { result ≡ fault_behind start self }
+    {
+        match self {
+            ListFault::BreaksOff(place) => ListFault::BreaksOff(place.saturating_add(start)),
+            ListFault::NoEnd(place) => ListFault::NoEnd(place.saturating_add(start)),
+        }
+    }
+}
+
+impl fmt::Display for ListFault {
+    ghost output = { λ fault. Some (fault_text fault) };
+
+    fn fmt<W: fmt::Write>(&self, f: &mut fmt::Formatter<W>) -> fmt::Result {
+        match *self {
+            ListFault::BreaksOff(place) => {
+                write!(f, "an element breaks off; its tag stands at place {place}")
+            }
+            ListFault::NoEnd(place) => {
+                write!(
+                    f,
+                    "the end tag is missing; it should stand at place {place}"
+                )
+            }
+        }
+    }
+}
+
+impl Error for ListFault {}

@@ -2,7 +2,6 @@
 #![tactic(auto)]
 
 ghost use Rattle.std.specs.Prelude.{◌≡◌, ◌++◌, length, take, IfOk, MatchResult};
-ghost use Rattle.elements.specs.Elements.{ran_out_at};
 ghost use Rattle.writer.specs.Written.{ending, Takes, Refuses};
 ghost use Rattle.writer.specs.Items.{written, table_fault};
 ghost use Rattle.lists.specs.ReadBack.{ReadsBack};
@@ -10,8 +9,7 @@ ghost use Rattle.lists.specs.Apart.{TakenApart};
 
 pub mod types;
 
-use elements::Coding;
-use elements::types::{ListFault, Seen};
+use elements::{Coding, Elements};
 use std::alloc::{AllocError, Global};
 use types::Apart;
 use writer::Open;
@@ -32,16 +30,6 @@ pub fn write_list<C: Coding>(
     Ok(closed.length())
 }
 
-/// What is wrong with a list whose octets run out at a place; else its length.
-fn ran_out<C: Coding>(place: usize) -> Result<usize, ListFault>
-    ensures { result ≡ ran_out_at C.rule.end place }
-{
-    match C::end_rule().end {
-        Some(_) => Err(ListFault::NoEnd(place)),
-        None => Ok(place),
-    }
-}
-
 /// Takes a list apart: its whole elements in order, as far as the first fault or the end.
 ///
 /// Written again they are the same octets, and so is the end of a list that is whole.
@@ -49,29 +37,12 @@ pub fn take_apart<'a, C: Coding>(list: &'a [u8], heap: Global) -> Result<Apart<'
     ensures { IfOk result (λ apart. TakenApart C.rule list.now apart.items.items apart.end) }
 {
     let mut items = Vec::new(heap);
-    let mut place = 0;
-    loop {
-        match elements::look::<C>(list, place) {
-            Seen::Single => {
-                items.push(Item::Single(list[place]))?;
-                place += 1;
-            }
-            Seen::Element(n) => {
-                items.push(Item::Element(list[place], &list[place + 2..place + 2 + n]))?;
-                place += 2 + n;
-            }
-            Seen::End => return Ok(Apart {
-                items,
-                end: Ok(place + 1),
-            }),
-            Seen::Broken => return Ok(Apart {
-                items,
-                end: Err(ListFault::BreaksOff(place)),
-            }),
-            Seen::Nothing => {
-                let end = ran_out::<C>(place);
-                return Ok(Apart { items, end });
-            }
-        }
+    let mut elements = Elements::of::<C>(list);
+    while let Some(element) = elements.next() {
+        items.push(Item::from(element))?;
     }
+    Ok(Apart {
+        items,
+        end: elements.end(),
+    })
 }

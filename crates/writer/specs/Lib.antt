@@ -1,2 +1,4 @@
 pub mod Written
 pub mod Items
+pub mod Texts
+pub mod Entries

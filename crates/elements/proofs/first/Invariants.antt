@@ -1,9 +1,10 @@
-use Rattle.std.proofs.Common.{◌≡◌, ◌-◌, length, drop}
+use Rattle.std.proofs.Common.{◌≡◌}
+use Rattle.elements.specs.Places.{walk_from}
 use Rattle.elements.specs.Elements.{item_in, walk}
 use Rattle.elements.proofs.first.Given as goal
 
-abbrev pub invariant-loop-p : goal.invariant-loop-p
-invariant-loop-p g l = item_in l.wanted (walk l.rule 0 l.p (drop l.p l.list)) ≡ item_in l.wanted (walk l.rule 0 0 l.list)
-
-abbrev pub decreases-loop-p : goal.decreases-loop-p
-decreases-loop-p g l = length l.list - l.p
+abbrev pub invariant-loop-element : goal.invariant-loop-element
+invariant-loop-element g l =
+    (goal.iterator-loop-element g).can_next l.element-iterator
+    × (goal.iterator-loop-element g).is_finite l.element-iterator
+    × (item_in l.wanted (walk_from l.element-iterator.rule l.element-iterator.list.now l.element-iterator.place) ≡ item_in l.wanted (walk g.C.Coding.rule 0 0 l.list))
