@@ -1,19 +1,17 @@
 //! Prints what stands in a message.
-ghost use Rattle.std.specs.Prelude.{length};
-ghost use Rattle.std.specs.Iterator.{at_most};
+ghost use Rattle.std.specs.Prelude.{◌≡◌, not, is_ok, IfOk};
 
 use crate::header::Message;
 use crate::meaning::{Described, Meaning};
 use crate::rewrite;
 use crate::rewrite::RewriteFault;
 use crate::types::{Count, Found};
-use elements::types::ListFault;
-use elements::{Dss1, Isup};
+use elements::types::{ListElement, ListFault};
+use elements::{Dss1, Elements, Isup};
 use lists::take_apart;
 use std::io;
 use text::Octets;
 use wording::{Page, names};
-use writer::types::Item;
 
 /// The tag of the parameter that holds DSS 1 elements.
 const ACCESS_TRANSPORT: u8 = 0x03;
@@ -27,38 +25,6 @@ const INDENT: &str = "  ";
 /// What stands in front of each line of a list that is nested in another.
 const NESTED: &str = "      ";
 
-/// The items of a list, each with the place of its first octet.
-#[derive(Drop)]
-struct Placed<'a> {
-    place: usize,
-    items: &'a [Item<'a>],
-}
-
-impl<'a> Iterator for Placed<'a> {
-    type Item = (usize, Item<'a>);
-
-    ghost remaining = { λ s. at_most (length s.items.now) };
-
-    fn next(&mut self) -> Option<(usize, Item<'a>)> {
-        let [item, rest @ ..] = self.items else {
-            return None;
-        };
-        let place = self.place;
-        self.place = place.saturating_add(size(*item));
-        self.items = rest;
-        Some((place, *item))
-    }
-}
-
-/// How many octets an element has.
-fn size(item: Item<'_>) -> usize {
-    match item {
-        Item::Element(_, contents) => contents.len().saturating_add(2),
-        Item::Single(_) => 1,
-        Item::Absent => 0,
-    }
-}
-
 /// What the contents of an element say, where they are read.
 fn show_meaning(page: Page<'_>, meaning: Meaning) -> io::Result<()> {
     match meaning {
@@ -67,40 +33,40 @@ fn show_meaning(page: Page<'_>, meaning: Meaning) -> io::Result<()> {
     }
 }
 
-/// One element: place, tag, name, length, contents, and what they say.
-fn show_item<C: Described>(page: Page<'_>, place: usize, item: Item<'_>) -> io::Result<()> {
-    match item {
-        Item::Element(tag, contents) => {
-            let name = C::name(tag);
-            let count = contents.len();
-            let octets = Octets(contents);
-            page.line(format_args!("{place:>6}  {tag:02X}  {name:<33}  {count:>3}  {octets}"))?;
-            show_meaning(page, C::meaning(tag, contents))
-        }
-        Item::Single(tag) => {
-            let name = C::name(tag);
-            page.line(format_args!("{place:>6}  {tag:02X}  {name:<33}    -  one octet"))
-        }
-        Item::Absent => Ok(()),
-    }
+/// One element of a list whose first octet stands at a place: its own place, tag, name, length, contents, and what they say.
+fn show_element<C: Described>(
+    page: Page<'_>,
+    start: usize,
+    element: ListElement<'_>,
+) -> io::Result<()> {
+    let place = start.saturating_add(element.place);
+    let tag = element.tag;
+    let name = C::name(tag);
+    let Some(contents) = element.contents else {
+        return page.line(format_args!("{place:>6}  {tag:02X}  {name:<33}    -  one octet"));
+    };
+    let count = contents.len();
+    let octets = Octets(contents);
+    page.line(format_args!("{place:>6}  {tag:02X}  {name:<33}  {count:>3}  {octets}"))?;
+    show_meaning(page, C::meaning(tag, contents))
 }
 
 /// The elements of a list whose first octet stands at a place.
-fn show_items<C: Described>(page: Page<'_>, place: usize, items: &[Item<'_>]) -> io::Result<()> {
-    for (place, item) in (Placed { place, items }) {
-        show_item::<C>(page, place, item)?;
+fn show_elements<C: Described>(page: Page<'_>, start: usize, list: &[u8]) -> io::Result<()> {
+    for element in Elements::of::<C>(list) {
+        show_element::<C>(page, start, element)?;
     }
     Ok(())
 }
 
 /// What is wrong with a list whose first octet stands at a place, if anything is.
-fn show_fault(page: Page<'_>, start: usize, end: Result<usize, ListFault>) -> io::Result<bool> {
+fn show_fault(page: Page<'_>, start: usize, end: Result<usize, ListFault>) -> io::Result<bool>
+    ensures { IfOk result (λ broken. broken ≡ not (is_ok end)) }
+{
     match end {
         Ok(_) => Ok(false),
         Err(fault) => {
-            let words = names::breach(fault);
-            let place = start.saturating_add(rewrite::reach(end));
-            page.line(format_args!("broken: {words} at place {place}"))?;
+            page.line(format_args!("broken: {}", fault.behind(start)))?;
             Ok(true)
         }
     }
@@ -110,7 +76,7 @@ fn show_fault(page: Page<'_>, start: usize, end: Result<usize, ListFault>) -> io
 fn show_nested(rt: &HostRuntime, start: usize, contents: &[u8]) -> io::Result<Found> {
     let page = Page { rt, indent: NESTED };
     let apart = take_apart::<Dss1>(contents, rt.alloc())?;
-    show_items::<Dss1>(page, start, apart.items.as_slice())?;
+    show_elements::<Dss1>(page, start, contents)?;
     let broken = show_fault(page, start, apart.end)?;
     Ok(Found {
         elements: apart.items.len(),
@@ -119,24 +85,19 @@ fn show_nested(rt: &HostRuntime, start: usize, contents: &[u8]) -> io::Result<Fo
     })
 }
 
-/// The parameters of a list whose first octet stands at a place, with the elements inside an access transport.
-fn show_list(page: Page<'_>, start: usize, items: &[Item<'_>]) -> io::Result<Found> {
-    let mut found = Found {
-        elements: items.len(),
-        ..Found::default()
-    };
-    for (place, item) in (Placed {
-        place: start,
-        items,
-    }) {
-        show_item::<Isup>(page, place, item)?;
-        if let Item::Element(ACCESS_TRANSPORT, contents) = item {
-            let nested = show_nested(page.rt, place.saturating_add(2), contents)?;
-            found.elements = found.elements.saturating_add(nested.elements);
-            found.broken = found.broken || nested.broken;
+/// The parameters of a list whose first octet stands at a place, with the elements inside an access transport; what was found in those.
+fn show_list(page: Page<'_>, start: usize, list: &[u8]) -> io::Result<Found> {
+    let mut inside = Found::default();
+    for element in Elements::of::<Isup>(list) {
+        show_element::<Isup>(page, start, element)?;
+        if let (ACCESS_TRANSPORT, Some(contents)) = (element.tag, element.contents) {
+            let place = start.saturating_add(element.place).saturating_add(2);
+            let nested = show_nested(page.rt, place, contents)?;
+            inside.elements = inside.elements.saturating_add(nested.elements);
+            inside.broken = inside.broken || nested.broken;
         }
     }
-    Ok(found)
+    Ok(inside)
 }
 
 /// What came of writing a message again; whether it is the same.
@@ -175,7 +136,7 @@ pub fn show_dss1(rt: &HostRuntime, octets: &[u8]) -> io::Result<Found> {
     page.line(format_args!("header  {header}  {message}"))?;
     let apart = take_apart::<Dss1>(message.list, rt.alloc())?;
     let items = apart.items.as_slice();
-    show_items::<Dss1>(page, HEADER, items)?;
+    show_elements::<Dss1>(page, HEADER, message.list)?;
     let broken = show_fault(page, HEADER, apart.end)?;
     let whole = rewrite::reach(apart.end).saturating_add(HEADER);
     let mut buf = vec![in rt.alloc(); 0u8; octets.len()]?;
@@ -214,13 +175,14 @@ pub fn show_parameters(rt: &HostRuntime, start: usize, octets: &[u8]) -> io::Res
     let page = Page { rt, indent: INDENT };
     let apart = take_apart::<Isup>(octets, rt.alloc())?;
     let items = apart.items.as_slice();
-    let inside = show_list(page, start, items)?;
+    let inside = show_list(page, start, octets)?;
     show_end(page, start, octets, apart.end)?;
     let broken = show_fault(page, start, apart.end)?;
     let mut buf = vec![in rt.alloc(); 0u8; octets.len().saturating_add(1)]?;
     let again = rewrite::isup(buf.as_mut_slice(), octets, items, apart.end);
     let same = show_again(page, again, broken)?;
     Ok(Found {
+        elements: items.len().saturating_add(inside.elements),
         broken: broken || inside.broken,
         same,
         ..inside

@@ -8,7 +8,6 @@ use crate::types::Count;
 use elements::types::ListFault;
 use elements::{Dss1, Isup};
 use std::fmt;
-use wording::names;
 use writer::Open;
 use writer::types::{Item, WriteFault};
 
@@ -31,10 +30,7 @@ impl fmt::Display for RewriteFault {
     fn fmt<W: fmt::Write>(&self, f: &mut fmt::Formatter<W>) -> fmt::Result {
         match *self {
             RewriteFault::Differs(n) => write!(f, "written again: {}, not the same", Count(n)),
-            RewriteFault::Refused(fault) => {
-                let why = names::refusal(fault);
-                write!(f, "not written again: {why}")
-            }
+            RewriteFault::Refused(fault) => write!(f, "not written again: {fault}"),
         }
     }
 }
@@ -45,8 +41,7 @@ pub fn reach(end: Result<usize, ListFault>) -> usize
 {
     match end {
         Ok(n) => n,
-        Err(ListFault::BreaksOff(place)) => place,
-        Err(ListFault::NoEnd(place)) => place,
+        Err(fault) => fault.place(),
     }
 }
 
