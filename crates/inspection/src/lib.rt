@@ -7,6 +7,8 @@ mod lines;
 mod meaning;
 mod report;
 mod rewrite;
+#[cfg(test)]
+mod tests;
 mod types;
 
 pub use lines::inspect;

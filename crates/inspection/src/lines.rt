@@ -112,7 +112,7 @@ fn show_line<K: Kind>(
 }
 
 /// Shows the lines of a text, and counts what they hold.
-fn inspect_text<K: Kind>(rt: &HostRuntime, text: &[u8]) -> io::Result<Tally> {
+pub fn inspect_text<K: Kind>(rt: &HostRuntime, text: &[u8]) -> io::Result<Tally> {
     let mut tally = Tally::default();
     for (index, line) in Lines::of(text).enumerate() {
         show_line::<K>(rt, index.saturating_add(1), line, &mut tally)?;

@@ -1,5 +1,6 @@
 //! Prints what stands in a message.
 ghost use Rattle.std.specs.Prelude.{◌≡◌, not, is_ok, IfOk};
+ghost use Rattle.inspection.specs.Found.{Dss1Found, ParametersFound};
 
 use crate::header::Message;
 use crate::meaning::{Described, Meaning};
@@ -75,11 +76,10 @@ fn show_fault(page: Page<'_>, start: usize, end: Result<usize, ListFault>) -> io
 /// The DSS 1 elements inside an access transport whose contents begin at a place.
 fn show_nested(rt: &HostRuntime, start: usize, contents: &[u8]) -> io::Result<Found> {
     let page = Page { rt, indent: NESTED };
-    let apart = take_apart::<Dss1>(contents, rt.alloc())?;
     show_elements::<Dss1>(page, start, contents)?;
-    let broken = show_fault(page, start, apart.end)?;
+    let broken = show_fault(page, start, elements::check::<Dss1>(contents))?;
     Ok(Found {
-        elements: apart.items.len(),
+        elements: Elements::of::<Dss1>(contents).count(),
         broken,
         ..Found::default()
     })
@@ -120,15 +120,19 @@ fn show_again(
 }
 
 /// A DSS 1 message.
-pub fn show_dss1(rt: &HostRuntime, octets: &[u8]) -> io::Result<Found> {
+pub fn show_dss1(rt: &HostRuntime, octets: &[u8]) -> io::Result<Found>
+    ensures { IfOk result (λ found. Dss1Found octets.now found) }
+{
     let page = Page { rt, indent: INDENT };
     let message = match Message::read(octets) {
         Ok(message) => message,
         Err(fault) => {
             page.line(format_args!("bad header: {fault}"))?;
             return Ok(Found {
+                elements: 0,
                 broken: true,
-                ..Found::default()
+                same: false,
+                refused: false,
             });
         }
     };
@@ -146,7 +150,7 @@ pub fn show_dss1(rt: &HostRuntime, octets: &[u8]) -> io::Result<Found> {
         elements: items.len(),
         broken,
         same,
-        ..Found::default()
+        refused: false,
     })
 }
 
@@ -171,7 +175,9 @@ fn show_end(
 }
 
 /// A list of optional parameters of ISUP whose first octet stands at a place.
-pub fn show_parameters(rt: &HostRuntime, start: usize, octets: &[u8]) -> io::Result<Found> {
+pub fn show_parameters(rt: &HostRuntime, start: usize, octets: &[u8]) -> io::Result<Found>
+    ensures { IfOk result (λ found. ParametersFound octets.now found) }
+{
     let page = Page { rt, indent: INDENT };
     let apart = take_apart::<Isup>(octets, rt.alloc())?;
     let items = apart.items.as_slice();
@@ -185,7 +191,7 @@ pub fn show_parameters(rt: &HostRuntime, start: usize, octets: &[u8]) -> io::Res
         elements: items.len().saturating_add(inside.elements),
         broken: broken || inside.broken,
         same,
-        ..inside
+        refused: false,
     })
 }
 

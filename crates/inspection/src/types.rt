@@ -1,4 +1,7 @@
 //! What a program shows, and what it counts.
+ghost use Rattle.std.specs.Prelude.{◌≡◌};
+ghost use Rattle.inspection.specs.Tally.{with_message, with_error};
+
 use std::{fmt, io};
 
 /// What a line may hold: the words that a program knows, and what it shows for each.
@@ -11,7 +14,7 @@ pub trait Kind: Copy {
 }
 
 /// What was found in one message.
-#[derive(Clone, Copy, Default)]
+#[derive(Clone, Copy, PartialEq, Eq, Debug, Default)]
 pub struct Found {
     /// Whole elements, the nested ones too.
     pub elements: usize,
@@ -24,7 +27,7 @@ pub struct Found {
 }
 
 /// How much has been seen.
-#[derive(Clone, Copy, Default)]
+#[derive(Clone, Copy, PartialEq, Eq, Debug, Default)]
 pub struct Tally {
     /// Messages, broken ones too.
     pub messages: usize,
@@ -42,7 +45,9 @@ pub struct Tally {
 
 impl Tally {
     /// Counts a message.
-    pub fn message(&mut self, found: Found) {
+    pub fn message(&mut self, found: Found)
+        ensures { self.new ≡ with_message self.old found }
+    {
         self.messages = self.messages.saturating_add(1);
         self.elements = self.elements.saturating_add(found.elements);
         self.broken = self.broken.saturating_add(usize::from(found.broken));
@@ -51,7 +56,9 @@ impl Tally {
     }
 
     /// Counts a line that is not a message.
-    pub fn error(&mut self) {
+    pub fn error(&mut self)
+        ensures { self.new ≡ with_error self.old }
+    {
         self.errors = self.errors.saturating_add(1);
     }
 }
