@@ -14,13 +14,13 @@ once n b = more n (cond b 1 0)
 
 abbrev pub with_message : Tally → Found → Tally
 with_message t found = record {
-    messages = more t.messages 1;
-    elements = more t.elements found.elements;
-    broken = once t.broken found.broken;
-    same = once t.same found.same;
-    refused = once t.refused found.refused;
-    errors = t.errors;
-  }
+  messages = more t.messages 1;
+  elements = more t.elements found.elements;
+  broken = once t.broken found.broken;
+  same = once t.same found.same;
+  refused = once t.refused found.refused;
+  errors = t.errors;
+}
 
 abbrev pub with_error : Tally → Tally
 with_error t = record t { errors = more t.errors 1 }

@@ -78,10 +78,11 @@ fn cause(contents: &[u8]) -> Meaning {
 
 /// A progress indicator.
 fn progress(contents: &[u8]) -> Meaning {
-    match values::progress(contents) {
-        Some((location, description)) => Meaning::Progress(location, description),
-        None => Meaning::CutShort,
-    }
+    let read = values::progress(contents);
+    read.map_or(
+        Meaning::CutShort,
+        |(location, description)| Meaning::Progress(location, description),
+    )
 }
 
 /// A number whose digits are characters: an octet with its type, one more where bit 8 of that is 0, then the digits.

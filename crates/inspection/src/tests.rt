@@ -32,9 +32,7 @@ fn dss1_messages(rt: HostRuntime) -> Result<(), Fail> {
 }
 
 /// An access transport that holds a subaddress, and a cause.
-const PARAMETERS: [u8; 10] = [
-    0x03, 0x03, 0x6D, 0x01, 0x50, 0x12, 0x02, 0x80, 0x90, 0x00,
-];
+const PARAMETERS: [u8; 10] = [0x03, 0x03, 0x6D, 0x01, 0x50, 0x12, 0x02, 0x80, 0x90, 0x00];
 
 #[test]
 fn parameters(rt: HostRuntime) -> Result<(), Fail> {

@@ -6,6 +6,7 @@ use std::{fmt, io};
 
 /// What a line may hold: the words that a program knows, and what it shows for each.
 pub trait Kind: Copy {
+    // An Option and no TryFrom: its error could say no more than that the word is none of these.
     /// The kind that a line's first word names.
     fn of(word: &[u8]) -> Option<Self>;
 
