@@ -1,7 +1,9 @@
 //! Whole lists: written from a table, read back, taken apart and written again.
 use elements::types::ListFault;
-use elements::{Dss1, Isup};
+use elements::{Coding, Dss1, Isup};
+use lists::types::Apart;
 use lists::{take_apart, write_list};
+use std::process::Abort;
 use std::test::Fail;
 use writer::types::{Item, WriteFault};
 
@@ -59,6 +61,19 @@ struct Case<'a> {
     again: Result<&'a [u8], WriteFault>,
 }
 
+/// Checks what is said of a list that was taken apart, and its elements written again.
+fn comes_out<C: Coding>(rt: &impl Abort, coding: C, case: Case<'_>, apart: Apart<'_>) {
+    assert_eq!(rt; apart.end, case.end);
+    let mut buf = [0xEE; 16];
+    match write_list(coding, &mut buf, apart.items.as_slice()) {
+        Ok(n) => {
+            assert!(rt; n <= 16);
+            assert_eq!(rt; Ok(&buf[0..n]), case.again);
+        }
+        Err(fault) => assert_eq!(rt; Err(fault), case.again),
+    }
+}
+
 #[test]
 fn a_dss1_list_taken_apart(rt: HostRuntime) -> Result<(), Fail> {
     let cases = [
@@ -88,17 +103,8 @@ fn a_dss1_list_taken_apart(rt: HostRuntime) -> Result<(), Fail> {
             again: Err(WriteFault::OutOfOrder),
         },
     ];
-    for case in &cases {
-        let apart = take_apart::<Dss1>(case.list, rt.alloc())?;
-        assert_eq!(rt; apart.end, case.end);
-        let mut buf = [0xEE; 16];
-        match write_list(Dss1, &mut buf, apart.items.as_slice()) {
-            Ok(n) => {
-                assert!(rt; n <= 16);
-                assert_eq!(rt; Ok(&buf[0..n]), case.again);
-            }
-            Err(fault) => assert_eq!(rt; Err(fault), case.again),
-        }
+    for case in cases {
+        comes_out(&rt, Dss1, case, take_apart::<Dss1>(case.list, rt.alloc())?);
     }
     Ok(())
 }
@@ -133,13 +139,8 @@ fn an_isup_list_taken_apart(rt: HostRuntime) -> Result<(), Fail> {
             again: Ok(&[0x00]),
         },
     ];
-    for case in &cases {
-        let apart = take_apart::<Isup>(case.list, rt.alloc())?;
-        assert_eq!(rt; apart.end, case.end);
-        let mut buf = [0xEE; 16];
-        let n = write_list(Isup, &mut buf, apart.items.as_slice())?;
-        assert!(rt; n <= 16);
-        assert_eq!(rt; Ok(&buf[0..n]), case.again);
+    for case in cases {
+        comes_out(&rt, Isup, case, take_apart::<Isup>(case.list, rt.alloc())?);
     }
     Ok(())
 }

@@ -51,8 +51,7 @@ fn types_of_number(rt: HostRuntime) {
         None,
         None,
     ];
-    let mut code = 0u8;
-    for wanted in types {
+    for (code, wanted) in (0u8..8).zip(types) {
         assert!(rt; code < 8);
         assert_eq!(rt; number_type(16 * code), wanted);
         assert_eq!(rt; number_type(128 + 16 * code + 1), wanted);
@@ -60,7 +59,6 @@ fn types_of_number(rt: HostRuntime) {
         if let Some(kind) = wanted {
             assert_eq!(rt; kind.code(), code);
         }
-        code += 1;
     }
 }
 
@@ -74,14 +72,11 @@ fn natures_of_address(rt: HostRuntime) {
         Some(NumberType::International),
         None,
     ];
-    let mut nature = 0u8;
-    for wanted in types {
-        assert!(rt; nature < 6);
+    for (nature, wanted) in (0u8..6).zip(types) {
         assert_eq!(rt; NumberType::from_nature(nature), wanted);
         if let Some(kind) = wanted {
             assert_eq!(rt; kind.nature(), nature);
         }
-        nature += 1;
     }
     assert_eq!(rt; NumberType::from_nature(255), None);
 }

@@ -20,13 +20,7 @@ fn stands(rt: &impl Abort, buf: &[u8], written: &[u8]) {
 
 /// What stood against a step; a message that goes on is given up.
 fn fault<C: Coding>(step: Result<Listing<C>, WriteFault>) -> Option<WriteFault> {
-    match step {
-        Ok(listing) => {
-            listing.abandon();
-            None
-        }
-        Err(fault) => Some(fault),
-    }
+    step.map(|listing| listing.abandon()).err()
 }
 
 /// Every step of a DSS 1 message.
@@ -66,53 +60,45 @@ const ISUP_MESSAGE: [u8; 10] = [0x03, 0x01, 0x07, 0x1E, 0x04, 0x04, 0x01, 0x90, 
 
 const TABLE: [u8; 7] = [0x01, 0x04, 0x01, 0x90, 0xF0, 0x00, 0x00];
 
-/// What is written into a buffer of each size: the steps that fit whole, and no octet of the next one.
-#[test]
-fn dss1_steps_need_room(rt: HostRuntime) {
-    for (size, reach) in [0, 0, 2, 2, 2, 2, 6, 7, 7].iter().enumerate() {
-        let mut buf = [BLANK; 8];
-        assert!(rt; size <= 8 && *reach <= 7);
-        let wanted = if size < 7 {
+/// Writes a message into a buffer of each size: there stand the steps that fit whole, and no octet of the next one.
+fn needs_room<F: Fn(&mut [u8]) -> Result<usize, WriteFault>>(
+    rt: &impl Abort,
+    steps: F,
+    message: &[u8],
+    reaches: &[usize],
+)
+    requires { F.IsAlwaysCallable steps }
+{
+    for (size, reach) in reaches.iter().enumerate() {
+        let mut buf = [BLANK; 11];
+        assert!(rt; size <= 11 && *reach <= message.len());
+        let wanted = if size < message.len() {
             Err(WriteFault::NoRoom)
         } else {
-            Ok(7)
+            Ok(message.len())
         };
         let room = &mut buf[0..size];
-        assert_eq!(rt; dss1_steps(room), wanted);
-        stands(&rt, room, &DSS1_MESSAGE[0..*reach]);
+        assert_eq!(rt; steps(room), wanted);
+        stands(rt, room, &message[0..*reach]);
     }
+}
+
+#[test]
+fn dss1_steps_need_room(rt: HostRuntime) {
+    let reaches = [0, 0, 2, 2, 2, 2, 6, 7, 7];
+    needs_room(&rt, dss1_steps, &DSS1_MESSAGE, &reaches);
 }
 
 #[test]
 fn isup_steps_need_room(rt: HostRuntime) {
-    for (size, reach) in [0, 0, 0, 3, 3, 3, 3, 3, 3, 9, 10, 10].iter().enumerate() {
-        let mut buf = [BLANK; 11];
-        assert!(rt; size <= 11 && *reach <= 10);
-        let wanted = if size < 10 {
-            Err(WriteFault::NoRoom)
-        } else {
-            Ok(10)
-        };
-        let room = &mut buf[0..size];
-        assert_eq!(rt; isup_steps(room), wanted);
-        stands(&rt, room, &ISUP_MESSAGE[0..*reach]);
-    }
+    let reaches = [0, 0, 0, 3, 3, 3, 3, 3, 3, 9, 10, 10];
+    needs_room(&rt, isup_steps, &ISUP_MESSAGE, &reaches);
 }
 
 #[test]
 fn a_table_needs_room(rt: HostRuntime) {
-    for (size, reach) in [0, 1, 1, 1, 1, 1, 1, 7, 7].iter().enumerate() {
-        let mut buf = [BLANK; 8];
-        assert!(rt; size <= 8 && *reach <= 7);
-        let wanted = if size < 7 {
-            Err(WriteFault::NoRoom)
-        } else {
-            Ok(7)
-        };
-        let room = &mut buf[0..size];
-        assert_eq!(rt; table_step(room), wanted);
-        stands(&rt, room, &TABLE[0..*reach]);
-    }
+    let reaches = [0, 1, 1, 1, 1, 1, 1, 7, 7];
+    needs_room(&rt, table_step, &TABLE, &reaches);
 }
 
 #[test]
@@ -129,7 +115,30 @@ fn a_nested_list_is_read_back(rt: HostRuntime) -> Result<(), Fail> {
     Ok(())
 }
 
-/// Elements of DSS 1 that stand behind one with the tag 04.
+/// Elements that stand behind one with the tag 04: their tags, and what stands against each.
+fn behind_04<C: Coding>(
+    rt: &impl Abort,
+    coding: C,
+    cases: &[(u8, Option<WriteFault>)],
+) -> Result<(), Fail> {
+    for (tag, wanted) in cases {
+        let mut buf = [BLANK; 8];
+        let listing = Open::begin().list(coding).element(&mut buf, 0x04, &[0x01])?;
+        assert_eq!(rt; fault(listing.element(&mut buf, *tag, &[0x02])), *wanted);
+        match wanted {
+            Some(_) => stands(rt, &buf, &[0x04, 0x01, 0x01]),
+            None => stands(rt, &buf, &[0x04, 0x01, 0x01, *tag, 0x01, 0x02]),
+        }
+    }
+    Ok(())
+}
+
+/// What stands against an element of one octet in an empty list.
+fn single_fault<C: Coding>(coding: C, tag: u8) -> Option<WriteFault> {
+    let mut buf = [BLANK; 8];
+    fault(Open::begin().list(coding).single(&mut buf, tag))
+}
+
 #[test]
 fn dss1_tags(rt: HostRuntime) -> Result<(), Fail> {
     let cases = [
@@ -140,21 +149,10 @@ fn dss1_tags(rt: HostRuntime) -> Result<(), Fail> {
         (0x80, Some(WriteFault::NotATag)),
         (0xFF, Some(WriteFault::NotATag)),
     ];
-    for (tag, wanted) in cases {
-        let mut buf = [BLANK; 8];
-        let listing = Open::begin().list(Dss1).element(&mut buf, 0x04, &[0x01])?;
-        assert_eq!(rt; fault(listing.element(&mut buf, tag, &[0x02])), wanted);
-        match wanted {
-            Some(_) => stands(&rt, &buf, &[0x04, 0x01, 0x01]),
-            None => stands(&rt, &buf, &[0x04, 0x01, 0x01, tag, 0x01, 0x02]),
-        }
-        let listing = Open::begin().list(Dss1);
-        let single = if tag < 0x80 {
-            Some(WriteFault::NotATag)
-        } else {
-            None
-        };
-        assert_eq!(rt; fault(listing.single(&mut buf, tag)), single);
+    behind_04(&rt, Dss1, &cases)?;
+    for (tag, _) in cases {
+        let wanted = (tag < 0x80).then_some(WriteFault::NotATag);
+        assert_eq!(rt; single_fault(Dss1, tag), wanted);
     }
     Ok(())
 }
@@ -168,19 +166,9 @@ fn isup_tags(rt: HostRuntime) -> Result<(), Fail> {
         (0x80, None),
         (0xFF, None),
     ];
-    for (tag, wanted) in cases {
-        let mut buf = [BLANK; 8];
-        let listing = Open::begin().list(Isup).element(&mut buf, 0x04, &[0x01])?;
-        assert_eq!(rt; fault(listing.element(&mut buf, tag, &[0x02])), wanted);
-        match wanted {
-            Some(_) => stands(&rt, &buf, &[0x04, 0x01, 0x01]),
-            None => stands(&rt, &buf, &[0x04, 0x01, 0x01, tag, 0x01, 0x02]),
-        }
-        let listing = Open::begin().list(Isup);
-        assert_eq!(rt;
-            fault(listing.single(&mut buf, tag)),
-            Some(WriteFault::NotATag)
-        );
+    behind_04(&rt, Isup, &cases)?;
+    for (tag, _) in cases {
+        assert_eq!(rt; single_fault(Isup, tag), Some(WriteFault::NotATag));
     }
     Ok(())
 }

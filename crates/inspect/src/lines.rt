@@ -1,6 +1,5 @@
 //! Prints what a line's message says.
-use crate::describe::Characters;
-use crate::report::Found;
+use inspection::{Characters, Found};
 use line::reading;
 use side::contents::{Reading, Signal};
 use std::io;
@@ -27,23 +26,17 @@ fn show_reading(rt: &HostRuntime, reading: &Reading) -> io::Result<()> {
 }
 
 /// One message of a line: leg, event, kind and digits, or the refusal.
-pub fn show_line_message(rt: &HostRuntime, octets: &[u8]) -> io::Result<Found> {
-    let found = Found {
-        elements: 0,
-        broken: false,
-        same: false,
-    };
+pub fn show_line(rt: &HostRuntime, octets: &[u8]) -> io::Result<Found> {
     match reading::read(MOST_LINES, octets) {
         Ok(reading) => {
             show_reading(rt, &reading)?;
-            Ok(found)
+            Ok(Found::default())
         }
         Err(refusal) => {
             println!(rt; "  {refusal}")?;
             Ok(Found {
-                elements: 0,
                 broken: true,
-                same: false,
+                ..Found::default()
             })
         }
     }

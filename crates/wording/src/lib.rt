@@ -2,4 +2,7 @@
 #![tactic(auto)]
 
 pub mod names;
-pub mod readings;
+mod page;
+mod readings;
+
+pub use page::Page;

@@ -1,7 +1,6 @@
 //! The usual names of message types, elements, parameters, causes and the like.
-use elements::types::ListFault;
-use writer::types::WriteFault;
-
+//!
+//! Of octets and not of enums: a capture may hold any octet, and each is shown.
 /// The name of a message type of DSS 1.
 pub fn message_type(code: u8) -> &'static str {
     match code {
@@ -140,23 +139,5 @@ pub fn location(code: u8) -> &'static str {
         7 => "international network",
         10 => "network beyond an interworking point",
         _ => "unknown location",
-    }
-}
-
-/// Why the writer refuses a table of elements.
-pub fn refusal(fault: WriteFault) -> &'static str {
-    match fault {
-        WriteFault::NotATag => "a tag that no element of this coding may have",
-        WriteFault::OutOfOrder => "the tags are not in ascending order",
-        WriteFault::TooLong => "more contents than a length octet can tell",
-        WriteFault::NoRoom => "no room in the buffer",
-    }
-}
-
-/// What is wrong with a list.
-pub fn breach(fault: ListFault) -> &'static str {
-    match fault {
-        ListFault::BreaksOff(_) => "an element breaks off; its tag stands",
-        ListFault::NoEnd(_) => "the end tag is missing; it should stand",
     }
 }

@@ -1,0 +1,3 @@
+pub mod Header
+pub mod Found
+pub mod Tally
