@@ -16,7 +16,7 @@ use side::contents::{Reading, Signal};
 use side::kinds::{Phase, Refusal, System};
 use side::leg::Leg;
 use side::records::Dss1Record;
-use side::refusing::row_fault;
+use side::refusing::check_row;
 
 /// The first leg that the exchange begins; only those from it on may be called.
 const FIRST_CALLABLE: usize = 32;
@@ -93,9 +93,7 @@ pub fn take(
     ensures { One (row_fault Dss1 (length out.old) (heard_in (kind_of reading.now.signal) before.phase)) (taken reading.now.leg.number before reading.now.heard (kind_of reading.now.signal) (contents_of reading.now.signal)) (takes reading.now.leg.number before.phase reading.now.heard (kind_of reading.now.signal) (contents_of reading.now.signal)).octets out.old out.new result }
 {
     let kind = reading.signal.kind();
-    if let Some(refusal) = row_fault(System::Dss1, out.len(), kind.heard_in(before.phase)) {
-        return Err(refusal);
-    }
+    check_row(System::Dss1, out.len(), kind.heard_in(before.phase))?;
     let phase = kind.heard_to(cleared_by(reading.heard), before.phase);
     let cause = cause_after(&reading.signal, before.cause);
     let n = reply(reading.leg, reading.heard, out);
@@ -147,13 +145,11 @@ pub fn tell(
     ensures { One (row_fault Dss1 (length out.old) (told_in (kind_of signal.now) (callable leg.number) before.phase)) (told leg.number before (kind_of signal.now) (contents_of signal.now)) (tells leg.number before.phase (kind_of signal.now) (contents_of signal.now)).octets out.old out.new result }
 {
     let kind = signal.kind();
-    if let Some(refusal) = row_fault(
+    check_row(
         System::Dss1,
         out.len(),
         kind.told_in(callable(leg), before.phase),
-    ) {
-        return Err(refusal);
-    }
+    )?;
     let n = say(leg, signal, out);
     Ok((
         Dss1Record {

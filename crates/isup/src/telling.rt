@@ -18,7 +18,7 @@ use side::kinds::{Kind, Phase, Refusal, System};
 use side::leg::Leg;
 use side::parts::Parts;
 use side::records::{CircuitRecord, Seizer};
-use side::refusing::row_fault;
+use side::refusing::check_row;
 use writer::Open;
 use writer::types::WriteFault;
 
@@ -68,9 +68,7 @@ pub fn take(
     ensures { One (row_fault Isup (length reply.old) (heard_in (kind_of reading.now.signal) before.phase)) (taken reading.now.leg.number before reading.now.heard (kind_of reading.now.signal) (contents_of reading.now.signal)) (takes reading.now.leg.number before.phase reading.now.heard (kind_of reading.now.signal) (contents_of reading.now.signal)).octets reply.old reply.new result }
 {
     let kind = reading.signal.kind();
-    if let Some(refusal) = row_fault(System::Isup, reply.len(), kind.heard_in(before.phase)) {
-        return Err(refusal);
-    }
+    check_row(System::Isup, reply.len(), kind.heard_in(before.phase))?;
     let after = CircuitRecord {
         phase: kind.heard_to(cleared_from(before.phase), before.phase),
         seized: seized_by(Seizer::FarEnd, kind, before.seized),
@@ -153,13 +151,11 @@ pub fn tell(
     ensures { One (row_fault Isup (length message.old) (told_in (kind_of signal.now) true before.phase)) (told leg.number before (kind_of signal.now) (contents_of signal.now)) (tells leg.number before.phase (kind_of signal.now) (contents_of signal.now)).octets message.old message.new result }
 {
     let kind = signal.kind();
-    if let Some(refusal) = row_fault(
+    check_row(
         System::Isup,
         message.len(),
         kind.told_in(true, before.phase),
-    ) {
-        return Err(refusal);
-    }
+    )?;
     let after = CircuitRecord {
         phase: kind.told_to(before.phase),
         seized: seized_by(Seizer::We, kind, before.seized),

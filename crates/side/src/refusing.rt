@@ -36,13 +36,6 @@ pub fn check_row(system: System, room: usize, row: bool) -> Result<(), Refusal>
     }
 }
 
-/// What stands against a take or a tell.
-pub fn row_fault(system: System, room: usize, row: bool) -> Option<Refusal>
-    ensures { result ≡ row_fault system room row }
-{
-    check_row(system, room, row).err()
-}
-
 impl System {
     /// A refusal of a message by this system's rules.
     pub fn refuses(self, reason: Reason, place: usize) -> Refusal
