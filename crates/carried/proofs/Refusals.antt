@@ -1,9 +1,8 @@
 -- Values that are refused together: what stands against both, and the place at which the first of them is refused. Assumes nothing.
-use Rattle.std.proofs.Common.{MatchResult, MatchOption, IsErrAnd, ◌≡◌, ℕ, Bool, true, false, cond, leb, Some, None, Ok, Err, Option, Result, is_some, sym, refl, ap, ◌∙◌, arith}
+use Rattle.std.proofs.Common.{MatchOption, ◌≡◌, ℕ, Bool, true, false, cond, leb, Some, None, Ok, Err, Option, Result, is_some, sym, refl, ap, ◌∙◌, arith}
 use Rattle.std.specs.Option.{option_map, ok_or}
-use Rattle.side.specs.declared.kinds.PartsFault.{PartsFault}
 use Rattle.side.specs.declared.kinds.Refusal.{Refusal}
-use Rattle.carried.specs.Carried.{bad_at, parts_bad_at, sooner, earlier, both, refused}
+use Rattle.carried.specs.Carried.{bad_at, sooner, earlier, both, refused}
 
 -- what stands against both values is the earlier of what stands against each
 pub both_refused : {A B : Type 0} (x : Result A Refusal) (y : Result B Refusal) → refused (both x y) ≡ earlier (refused x) (refused y)
@@ -41,14 +40,7 @@ pub some_or_refused : {T : Type 0} (at : ℕ → Refusal) (place : ℕ) (good : 
 some_or_refused at place good (Some v) m h e = ap refused e ∙ sym (ap (λ g. option_map at (bad_at g place)) h)
 some_or_refused at place good None m h e = ap refused e ∙ sym (ap (λ g. option_map at (bad_at g place)) h)
 
+-- a reading is there where what it is read as is
 pub read_is : {A B : Type 0} (f : A → B) (o : Option A) (p : Option B) → option_map f o ≡ p → MatchOption o (is_some p ≡ false) (λ _. is_some p ≡ true)
 read_is f None p e = ap is_some (sym e)
 read_is f (Some v) p e = ap is_some (sym e)
-
--- the parts that are read, or refused where they are outside their limits
-pub parts_or_refused : {T : Type 0} (at : ℕ → Refusal) (place : ℕ) (f : Option PartsFault) (r : Result T PartsFault) (m : Result T Refusal) →
-    MatchResult r (λ _. f ≡ None) (λ e. f ≡ Some e) → MatchResult r (λ v. m ≡ Ok v) (λ e. IsErrAnd m (λ y. Some y ≡ option_map at (parts_bad_at (Some e) place))) →
-    refused m ≡ option_map at (parts_bad_at f place)
-parts_or_refused at place f (Ok v) m h k = ap refused k ∙ sym (ap (λ x. option_map at (parts_bad_at x place)) h)
-parts_or_refused at place f (Err e) (Ok v) h k = absurd k
-parts_or_refused at place f (Err e) (Err y) h k = k ∙ sym (ap (λ x. option_map at (parts_bad_at x place)) h)

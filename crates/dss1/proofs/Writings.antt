@@ -76,11 +76,8 @@ pub whole : (v w : ℕ) (r t : ℕ) (rest before middle after : List ℕ) (at mi
 whole v w r t rest before middle after at mid end n p q here there first second =
     subst (λ l. Adds l 0 before n after) (λ i. 0x08 ∷ 0x01 ∷ p i ∷ q i ∷ rest) (moved here (sym there) (then first refl second))
 
--- what is written from the front of a buffer, and how long it is
+-- what is written from the front of a buffer
 pub from_front : (octets before after : List ℕ) (n : ℕ) → Adds octets 0 before n after → after ≡ written octets before
 from_front octets before after n p =
     let k : n ≡ length octets = omega (arith, p.count) in
     sym (take-append-drop n after) ∙ (λ i. p.front i ++ p.rest i) ∙ ap (λ m. octets ++ drop m before) k
-
-pub as_long : (octets before after : List ℕ) (n : ℕ) → Adds octets 0 before n after → n ≡ length octets
-as_long octets before after n p = omega (arith, p.count)

@@ -1,13 +1,12 @@
 //! What becomes of a call place's record, and what is written to the party.
-ghost use Rattle.std.specs.Prelude.{◌≡◌, ℕ, ◌≤◌, ◌++◌, length, Some, None};
+ghost use Rattle.std.specs.Prelude.{◌≡◌, ℕ, ◌≤◌, [], length, Some, None};
 ghost use Rattle.std.specs.Option as Options;
-ghost use Rattle.entries.specs.Entries.{listed};
 ghost use Rattle.side.specs.Table.{heard_in, told_in};
 ghost use Rattle.side.specs.Signals.{kind_of, contents_of};
 ghost use Rattle.side.specs.Steps.{row_fault, One, written};
 ghost use Rattle.side.specs.declared.kinds.System.TheVariants.{Dss1};
-ghost use Rattle.dss1_meaning.specs.Dss1.{callable, head, reply_to, replied, cleared_by, kept_of, told_type, told_elements, told_octets, takes, taken, tells, told};
-ghost use Rattle.dss1.specs.Fields.{table_of};
+ghost use Rattle.dss1_meaning.specs.Dss1.{callable, reply_to, cleared_by, kept_of, told_type, told_elements, table, takes, taken, tells, told};
+ghost use Rattle.dss1.specs.Fields.{table_of, message_octets};
 
 use crate::fields::Fields;
 use crate::writing::write;
@@ -28,16 +27,16 @@ pub fn callable(leg: Leg) -> bool
     leg.number() >= FIRST_CALLABLE
 }
 
-/// Writes a message to a leg from the front of a buffer with room for every message.
-fn send(leg: Leg, message: MessageType, fields: &Fields, out: &mut [u8]) -> usize
+/// Writes a message to a leg, if there is one, from the front of a buffer with room for every message.
+fn send(leg: Leg, message: Option<(MessageType, Fields)>, out: &mut [u8]) -> usize
     requires { 256 ≤ length out.old }
-    ensures wrote { out.new ≡ written (head leg.number message ++ listed (table_of fields.now)) out.old }
-    ensures long { result ≡ length (head leg.number message ++ listed (table_of fields.now)) }
+    ensures wrote { out.new ≡ written (message_octets leg.number message) out.old }
+    ensures long { result ≡ length (message_octets leg.number message) }
 {
-    match write(leg, message, fields, out) {
-        Ok(n) => n,
-        Err(_) => unreachable(),
-    }
+    let Some((message_type, fields)) = message else {
+        return 0;
+    };
+    write(leg, message_type, &fields, out).unwrap()
 }
 
 /// What a message of a type is replied with, if anything.
@@ -72,16 +71,12 @@ fn cause_after(signal: &Signal, before: Option<u8>) -> Option<u8>
     }
 }
 
-/// Writes the reply to a message of a type: a head alone, or nothing.
-fn reply(leg: Leg, heard: u8, out: &mut [u8]) -> usize
-    requires { 256 ≤ length out.old }
-    ensures wrote { out.new ≡ written (replied leg.number (reply_to heard)) out.old }
-    ensures long { result ≡ length (replied leg.number (reply_to heard)) }
+/// The reply to a message of a type: a head alone, or nothing.
+fn reply(heard: u8) -> Option<(MessageType, Fields)>
+    ensures { Options.MatchOption result (reply_to heard ≡ None) (λ m. (reply_to heard ≡ Some m.0) × (table_of m.1 ≡ table [] [] [] [] [])) }
 {
-    match reply_to(heard) {
-        Some(message) => send(leg, message, &Fields::none(), out),
-        None => 0,
-    }
+    let message = reply_to(heard)?;
+    Some((message, Fields::none()))
 }
 
 /// Takes what was read: connect, disconnect and release are replied to.
@@ -96,7 +91,7 @@ pub fn take(
     check_row(System::Dss1, out.len(), kind.heard_in(before.phase))?;
     let phase = kind.heard_to(cleared_by(reading.heard), before.phase);
     let cause = cause_after(&reading.signal, before.cause);
-    let n = reply(reading.leg, reading.heard, out);
+    let n = send(reading.leg, reply(reading.heard), out);
     Ok((Dss1Record { phase, cause }, n))
 }
 
@@ -123,18 +118,6 @@ fn message_of(signal: &Signal) -> Option<(MessageType, Fields)>
     }
 }
 
-/// Writes the message that tells a signal, or nothing.
-fn say(leg: Leg, signal: &Signal, out: &mut [u8]) -> usize
-    requires { 256 ≤ length out.old }
-    ensures wrote { out.new ≡ written (told_octets leg.number (told_type (kind_of signal.now)) (told_elements (kind_of signal.now) (contents_of signal.now))) out.old }
-    ensures long { result ≡ length (told_octets leg.number (told_type (kind_of signal.now)) (told_elements (kind_of signal.now) (contents_of signal.now))) }
-{
-    match message_of(signal) {
-        Some((message, fields)) => send(leg, message, &fields, out),
-        None => 0,
-    }
-}
-
 /// Tells a leg: one message, or nothing.
 pub fn tell(
     before: Dss1Record,
@@ -150,7 +133,7 @@ pub fn tell(
         out.len(),
         kind.told_in(callable(leg), before.phase),
     )?;
-    let n = say(leg, signal, out);
+    let n = send(leg, message_of(signal), out);
     Ok((
         Dss1Record {
             phase: kind.told_to(before.phase),
