@@ -2,8 +2,8 @@
 -- Rests on element lists, on the values inside elements, on the kinds and on the table of phases.
 use Rattle.std.specs.Prelude.{◌≡◌, ℕ, ◌+◌, ◌-◌, ◌*◌, ◌/◌, ◌%◌, ◌<◌, Bool, true, false, cond, not, ◌&&◌, ◌||◌, List, [], ◌∷◌, ◌++◌, length, drop, is_some, is_ok, ok_or, Some, None, Ok, Err, Option, Result, ◌==◌, nat_le, nat_lt, slice_index}
 use Rattle.elements.specs.declared.types.ListFault.{ListFault}
-use Rattle.elements.specs.declared.types.ListFault.TheVariants.{BreaksOff, NoEnd}
 use Rattle.elements.specs.Elements.{checked}
+pub use Rattle.elements.specs.Faults.{fault_place}
 use Rattle.entries.specs.Codings.{dss1}
 use Rattle.entries.specs.Entries.{Entry, listed, found}
 use Rattle.values.specs.declared.types.NumberType.{NumberType}
@@ -202,10 +202,6 @@ heard_as end o (Ok s) = Ok (record { leg = leg_of end (slice_index o 2); type = 
 heard_as end o (Err e) = Err e
 
 -- an element that breaks off is refused at its tag
-abbrev pub fault_place : ListFault → ℕ
-fault_place (BreaksOff p) = p
-fault_place (NoEnd p) = p
-
 abbrev pub list_read : End → List ℕ → MessageType → Result ℕ ListFault → Result Heard Refusal
 list_read end o t (Err f) = Err (record { reason = Malformed; place = 4 + fault_place f; system = Dss1; layer = InList })
 list_read end o t (Ok n) = heard_as end o (body_read t (body_in (drop 4 o)))

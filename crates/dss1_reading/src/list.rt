@@ -11,14 +11,13 @@ ghost use Rattle.side.specs.Contents as side;
 ghost use Rattle.side.specs.Signals.{bearer_of, cause_of, noted, progress_of};
 ghost use Rattle.carried.specs.Carried.{parts_of, tag_place, bad_at, refused};
 ghost use Rattle.carried.specs.Messages.{number_of};
-ghost use Rattle.dss1_meaning.specs.Dss1.{refusal, body_in, number_in, cause_or, parts_bad, fault_place};
+ghost use Rattle.dss1_meaning.specs.Dss1.{refusal, body_in, number_in, cause_or, parts_bad};
 ghost use Rattle.dss1_reading.specs.Reads.{list_fault};
 
 use crate::octets::{BEARER, CAUSE, NUMBER};
 use carried::USER_USER;
 use digits::Digits;
 use elements::Dss1;
-use elements::types::ListFault;
 use side::contents::{Bearer, Cause, Number, Progress};
 use side::kinds::{Layer, Reason, Refusal, System};
 use side::parts::Parts;
@@ -31,27 +30,6 @@ pub(crate) const HEAD: usize = 4;
 pub(crate) struct Elements<'a> {
     pub(crate) octets: &'a [u8],
     ghost short: { length octets.now ≤ 251 },
-}
-
-/// A refusal by the rules of the messages.
-pub(crate) fn refuse(reason: Reason, place: usize) -> Refusal
-    ensures { result ≡ refusal reason place }
-{
-    Refusal {
-        reason,
-        place,
-        system: System::Dss1,
-        layer: Layer::Message,
-    }
-}
-
-/// The place of what is wrong with a list.
-fn fault_place(fault: ListFault) -> usize
-    ensures { result ≡ fault_place fault }
-{
-    match fault {
-        ListFault::BreaksOff(place) | ListFault::NoEnd(place) => place,
-    }
 }
 
 /// The called number that an element holds: its type in the first octet, the digits behind it.
@@ -88,7 +66,7 @@ impl<'a> Elements<'a> {
         // By hand: a closure that holds the list needs clauses of its own, longer than this.
         match value {
             Some(value) => Ok(value),
-            None => Err(refuse(Reason::BadValue, self.place_of(tag))),
+            None => Err(System::Dss1.refuses(Reason::BadValue, self.place_of(tag))),
         }
     }
 
@@ -99,11 +77,10 @@ impl<'a> Elements<'a> {
         let Err(fault) = elements::check::<Dss1>(self.octets) else {
             return Ok(());
         };
+        let place = HEAD + fault.place();
         Err(Refusal {
-            reason: Reason::Malformed,
-            place: HEAD + fault_place(fault),
-            system: System::Dss1,
             layer: Layer::List,
+            ..System::Dss1.refuses(Reason::Malformed, place)
         })
     }
 
@@ -131,7 +108,7 @@ impl<'a> Elements<'a> {
         // By hand, as above.
         match carried::parts(self.octets, Some(self.found(USER_USER))) {
             Ok(parts) => Ok(parts),
-            Err(fault) => Err(refuse(
+            Err(fault) => Err(System::Dss1.refuses(
                 Reason::BadValue,
                 carried::refused_at(fault, self.place_of(USER_USER)),
             )),

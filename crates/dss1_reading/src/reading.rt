@@ -4,13 +4,13 @@ ghost use Rattle.side.specs.Signals.{noted, read_as};
 ghost use Rattle.carried.specs.Messages.{signal_as};
 ghost use Rattle.dss1_meaning.specs.Dss1.{headed, body_in, setup_read, proceeding_read, progress_read, body_read, reads};
 
-use crate::list::{Elements, HEAD, refuse};
+use crate::list::{Elements, HEAD};
 use crate::octets::{BEARER, NUMBER, PROTOCOL, REFERENCE_LENGTH};
 use crate::reference::leg_of;
 use carried::both;
 use dss1_meaning::types::MessageType;
 use side::contents::{Reading, Setup, Signal};
-use side::kinds::{Reason, Refusal};
+use side::kinds::{Reason, Refusal, System};
 
 /// The place of the reference.
 const REFERENCE: usize = 2;
@@ -32,7 +32,7 @@ impl Elements<'_> {
         ensures { signal_as result ≡ setup_read (body_in self.entry.octets.now) }
     {
         if self.found(BEARER).is_empty() || self.found(NUMBER).is_empty() {
-            return Err(refuse(Reason::Missing, 0));
+            return Err(System::Dss1.refuses(Reason::Missing, 0));
         }
         let (bearer, (number, parts)) = both(self.bearer(), both(self.number(), self.parts()))?;
         Ok(Signal::Setup(Setup {
@@ -62,7 +62,7 @@ impl Elements<'_> {
         ensures { signal_as result ≡ progress_read (noted (body_in self.entry.octets.now).progress) }
     {
         let Some(progress) = self.progress() else {
-            return Err(refuse(Reason::Missing, 0));
+            return Err(System::Dss1.refuses(Reason::Missing, 0));
         };
         match progress.described() {
             3 | 8 => Ok(Signal::Quiet),
@@ -93,13 +93,13 @@ pub fn read(legs: usize, message: &[u8]) -> Result<Reading, Refusal>
     ensures { read_as result ≡ reads legs message.now }
 {
     if !has_head(message) {
-        return Err(refuse(Reason::Malformed, 0));
+        return Err(System::Dss1.refuses(Reason::Malformed, 0));
     }
     let Ok(message_type) = MessageType::try_from(message[TYPE]) else {
-        return Err(refuse(Reason::UnknownType, TYPE));
+        return Err(System::Dss1.refuses(Reason::UnknownType, TYPE));
     };
     let Some(leg) = leg_of(message[REFERENCE], message_type, legs) else {
-        return Err(refuse(Reason::NoSuchLeg, REFERENCE));
+        return Err(System::Dss1.refuses(Reason::NoSuchLeg, REFERENCE));
     };
     let elements = Elements {
         octets: &message[HEAD..],

@@ -108,13 +108,13 @@ pub fn show_isup(rt: &HostRuntime, octets: &[u8]) -> io::Result<Found> {
     let Some(head) = octets.get(0..HEAD) else {
         return show_missing(page, "it breaks off", octets.len());
     };
-    match MessageType::from_octet(head[2]) {
-        Some(kind) => {
+    match MessageType::try_from(head[2]) {
+        Ok(kind) => {
             page.line(format_args!("header  {}  {kind}", Octets(head)))?;
             let message = Message { page, octets, kind };
             message.show_body()
         }
-        None => {
+        Err(_) => {
             page.line(format_args!("header  {}  unknown type", Octets(head)))?;
             Ok(Found::default())
         }

@@ -1,6 +1,6 @@
 -- The tables of the optional list: how long they are, that their tags ascend, and when they are empty. Assumes nothing.
 use Rattle.std.proofs.Common.{◌≡◌, ℕ, ◌+◌, ◌<◌, ◌≤◌, false, ◌&&◌, eqb, List, [], ◌∷◌, ◌++◌, length, drop, Some, Result, MatchResult, sym, refl, ap, ◌∙◌, subst, append_assoc, append-nil, arith, lit<, length-append, Bor}
-use Rattle.std.proofs.lemmas.List.{take-append-drop, length-take}
+use Rattle.std.proofs.lemmas.List.{take-append-drop}
 use Rattle.std.proofs.lemmas.Bool.{cond-false}
 use Rattle.std.proofs.lemmas.Bool.Decides.{nat_tests}
 use Rattle.std.proofs.lemmas.Result.{MatchResult-weaker}
@@ -14,8 +14,6 @@ use Rattle.writer.specs.declared.types.WriteFault.{WriteFault}
 use Rattle.writer.specs.Items.{written, nest_fault, table_fault}
 use Rattle.writer.specs.Written.{element, Adds, Step, ListStep}
 use Rattle.writer.proofs.Puts.{then, moved}
-use Rattle.held.specs.declared.Held.{Held}
-use Rattle.held.specs.Held.{octets_of}
 use Rattle.side.specs.Limits.{cost}
 use Rattle.side.specs.declared.parts.Parts.{Parts}
 use Rattle.side.specs.Contents.{parts_of, calling_of, called_of, low_of, high_of, user_of}
@@ -36,10 +34,6 @@ total p =
       ap (λ l. cost (length l)) (part_high p),
       ap (λ l. cost (length l)) (part_user p),
     )
-
--- octets that are held by value are no more than their type says
-pub held_few : {n : ℕ} (h : Held n) → length (octets_of h) ≤ n
-held_few h = let m = h.most in omega (arith, length-take h.count h.octets)
 
 held : (n : ℕ) → n ≤ cost n
 held n = grind (arith, nat_tests)

@@ -31,18 +31,6 @@ pub(crate) struct Body<'a> {
     pub(crate) user: Tagged<'a>,
 }
 
-/// A refusal by the rules of messages.
-pub(crate) fn refuse(reason: Reason, place: usize) -> Refusal
-    ensures { result ≡ refusal reason place }
-{
-    Refusal {
-        reason,
-        place,
-        system: System::Isup,
-        layer: Layer::Message,
-    }
-}
-
 impl<'a> Tagged<'a> {
     /// What an optional list that begins at a place of the message has under a tag.
     fn under(list: &'a [u8], start: usize, tag: u8) -> Tagged<'a>
@@ -63,7 +51,7 @@ impl<'a> Tagged<'a> {
     {
         let malformed = Refusal {
             layer: Layer::NestedList,
-            ..refuse(Reason::Malformed, self.place)
+            ..System::Isup.refuses(Reason::Malformed, self.place)
         };
         elements::check::<Dss1>(self.contents)
             .is_err()
@@ -106,7 +94,7 @@ impl<'a> Body<'a> {
         ensures { MatchResult result (λ b. (body_of b ≡ body_in message.entry.octets.now kind) × (whole_read message.entry.octets.now kind None ≡ layout_read message.entry.octets.now kind)) (λ e. Err e ≡ layout_read message.entry.octets.now kind) }
     {
         if !message.has_fixed(kind) {
-            return Err(refuse(Reason::Malformed, 0));
+            return Err(System::Isup.refuses(Reason::Malformed, 0));
         }
         let body = Body::of(message, kind);
         match body.broken(kind) {

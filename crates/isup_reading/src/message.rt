@@ -1,11 +1,10 @@
 //! A message with its head, and the pointers in it.
 ghost use Rattle.std.specs.Prelude.{◌≡◌, ℕ, ◌<◌, ◌≤◌, length};
 
-use crate::layout::refuse;
 use elements::Isup as OptionalCoding;
 use elements::types::ListFault;
 use isup_meaning::types::MessageType;
-use side::kinds::{Layer, Reason, Refusal};
+use side::kinds::{Layer, Reason, Refusal, System};
 use side::leg::Leg;
 
 /// The place of the type.
@@ -42,7 +41,7 @@ impl<'a> Message<'a> {
         if octets.len() >= HEAD && octets.len() <= LONGEST {
             Ok(Message { octets })
         } else {
-            Err(refuse(Reason::Malformed, 0))
+            Err(System::Isup.refuses(Reason::Malformed, 0))
         }
     }
 
@@ -57,7 +56,10 @@ impl<'a> Message<'a> {
     pub(crate) fn kind(self) -> Result<MessageType, Refusal>
         ensures { MatchResult result (λ t. Some t ≡ type_in (slice_index self.entry.octets.now 2)) (λ e. (None ≡ type_in (slice_index self.entry.octets.now 2)) × (e ≡ refusal UnknownType 2)) }
     {
-        MessageType::try_from(self.octet(TYPE)).map_err(|_| refuse(Reason::UnknownType, TYPE))
+        MessageType::try_from(self.octet(TYPE)).map_err(|_| System::Isup.refuses(
+            Reason::UnknownType,
+            TYPE,
+        ))
     }
 
     /// The circuit: octet 0 and the low half of octet 1.
@@ -71,7 +73,7 @@ impl<'a> Message<'a> {
     pub(crate) fn leg(self, legs: usize) -> Result<Leg, Refusal>
         ensures { MatchResult result (λ l. (true ≡ (nat_lt (circuit_in self.entry.octets.now) legs && nat_lt (circuit_in self.entry.octets.now) 64)) × (l.number ≡ circuit_in self.entry.octets.now)) (λ e. (false ≡ (nat_lt (circuit_in self.entry.octets.now) legs && nat_lt (circuit_in self.entry.octets.now) 64)) × (e ≡ refusal NoSuchLeg 0)) }
     {
-        Leg::among(self.circuit(), legs).ok_or(refuse(Reason::NoSuchLeg, 0))
+        Leg::among(self.circuit(), legs).ok_or(System::Isup.refuses(Reason::NoSuchLeg, 0))
     }
 
     /// Whether all the fixed octets of a type are there.
@@ -159,7 +161,7 @@ impl<'a> Pointer<'a> {
     pub(crate) fn field_fault(self) -> Option<Refusal>
         ensures { result ≡ field_fault self.entry.message.octets.now self.entry.place }
     {
-        let malformed = refuse(Reason::Malformed, self.place);
+        let malformed = System::Isup.refuses(Reason::Malformed, self.place);
         let Some(distance) = self.message.octets.get(self.place) else {
             return Some(malformed);
         };
@@ -177,7 +179,7 @@ impl<'a> Pointer<'a> {
         ensures { result ≡ optional_fault self.entry.message.octets.now self.entry.place }
     {
         let Some(distance) = self.message.octets.get(self.place) else {
-            return Some(refuse(Reason::Malformed, self.place));
+            return Some(System::Isup.refuses(Reason::Malformed, self.place));
         };
         if *distance == 0 {
             return None;
@@ -189,7 +191,7 @@ impl<'a> Pointer<'a> {
         };
         Some(Refusal {
             layer: Layer::List,
-            ..refuse(Reason::Malformed, place)
+            ..System::Isup.refuses(Reason::Malformed, place)
         })
     }
 }

@@ -12,13 +12,13 @@ ghost use Rattle.isup_meaning.specs.Reading.{medium_bearer, number_in, there, fi
 ghost use Rattle.isup_reading.specs.Reads.{body_of, signal_as, bad_value, number_of};
 
 use crate::codes::Event;
-use crate::layout::{Body, refuse};
+use crate::layout::Body;
 use crate::message::{Message, TYPE};
 use carried::both;
 use digits::unpack;
 use isup_meaning::types::MessageType;
 use side::contents::{Bearer, Cause, Number, Progress, Reading, Setup, Signal};
-use side::kinds::{Reason, Refusal};
+use side::kinds::{Reason, Refusal, System};
 use side::parts::Parts;
 use values::NumberType;
 
@@ -61,7 +61,7 @@ fn medium(body: Body<'_>) -> Result<Bearer, Refusal>
     ensures bad { refused result ≡ bad_value (bad_at (is_some (medium_bearer (slice_index (body_of body.entry).octets 7))) 7) }
     ensures value { IfOk result (λ b. Some (bearer_of b) ≡ medium_bearer (slice_index (body_of body.entry).octets 7)) }
 {
-    medium_bearer(body.message.octet(MEDIUM)).ok_or(refuse(Reason::BadValue, MEDIUM))
+    medium_bearer(body.message.octet(MEDIUM)).ok_or(System::Isup.refuses(Reason::BadValue, MEDIUM))
 }
 
 /// A called number: nature of address, with bit 8 set for an odd count of signals; an octet that is ignored; the
@@ -82,7 +82,7 @@ fn number(body: Body<'_>) -> Result<Number, Refusal>
     ensures bad { refused result ≡ bad_value (bad_at (is_some (number_in (body_of body.entry).field)) 8) }
     ensures value { IfOk result (λ n. Some (number_of n) ≡ number_in (body_of body.entry).field) }
 {
-    called_number(body.field).ok_or(refuse(Reason::BadValue, NUMBER))
+    called_number(body.field).ok_or(System::Isup.refuses(Reason::BadValue, NUMBER))
 }
 
 /// A bearer that came is refused at its tag.
@@ -93,7 +93,10 @@ fn bearer(body: Body<'_>) -> Result<Option<Bearer>, Refusal>
     if body.bearer.contents.is_empty() {
         return Ok(None);
     }
-    let bearer = served(body.bearer.contents).ok_or(refuse(Reason::BadValue, body.bearer.place))?;
+    let bearer = served(body.bearer.contents).ok_or(System::Isup.refuses(
+        Reason::BadValue,
+        body.bearer.place,
+    ))?;
     Ok(Some(bearer))
 }
 
@@ -103,7 +106,7 @@ fn parts(body: Body<'_>) -> Result<Parts, Refusal>
     ensures value { IfOk result (λ p. side.parts_of p ≡ parts_of (five_of (body_of body.entry))) }
 {
     carried::parts(body.access.contents, Some(body.user.contents)).map_err(|fault| {
-        refuse(
+        System::Isup.refuses(
             Reason::BadValue,
             carried::refused_at(fault, body.user.place),
         )
@@ -115,7 +118,7 @@ fn setup(body: Body<'_>) -> Result<Signal, Refusal>
     ensures { signal_as result ≡ setup_read (body_of body.entry) }
 {
     if body.field.len() < 2 {
-        return Err(refuse(Reason::Missing, 0));
+        return Err(System::Isup.refuses(Reason::Missing, 0));
     }
     let (medium, (number, (bearer, parts))) = both(
         medium(body),
@@ -191,7 +194,7 @@ fn event(body: Body<'_>) -> Result<Signal, Refusal>
             },
             true,
         )),
-        Err(_) => Err(refuse(Reason::BadValue, EVENT)),
+        Err(_) => Err(System::Isup.refuses(Reason::BadValue, EVENT)),
     }
 }
 
@@ -199,7 +202,7 @@ fn event(body: Body<'_>) -> Result<Signal, Refusal>
 fn release(body: Body<'_>) -> Result<Signal, Refusal>
     ensures { signal_as result ≡ release_read (cause_in (body_of body.entry).field) (body_of body.entry) }
 {
-    let cause = Cause::read(body.field).ok_or(refuse(Reason::Missing, 0))?;
+    let cause = Cause::read(body.field).ok_or(System::Isup.refuses(Reason::Missing, 0))?;
     Ok(Signal::Clear(cause, parts(body)?))
 }
 

@@ -14,26 +14,18 @@ const LAST: u8 = 0x80;
 /// The numbering plan of a called number, in the low bits of its first octet.
 const PLAN: u8 = 0x01;
 
-/// Octets that are at most `N`.
-fn held<const N: usize>(octets: &[u8]) -> Held<N>
-    requires { length octets.now ≤ N }
-    ensures { octets_of result ≡ octets.now }
-{
-    Held::of(octets).unwrap()
-}
-
 /// A bearer capability.
 pub(crate) fn bearer_octets(bearer: &Bearer) -> Held<11>
     ensures { octets_of result ≡ bearer_of bearer.now }
 {
-    held(bearer.as_octets())
+    Held::of(bearer.as_octets()).unwrap()
 }
 
 /// A cause: location and value, each the last octet of its group.
 pub(crate) fn cause_octets(cause: Cause) -> Held<2>
     ensures { octets_of result ≡ cause_octets (Some (cause_of cause)) }
 {
-    held(&[LAST + cause.location(), LAST + cause.value()])
+    Held::of(&[LAST + cause.location(), LAST + cause.value()]).unwrap()
 }
 
 /// A progress indicator, if there is one.
@@ -41,7 +33,7 @@ pub(crate) fn progress_octets(progress: Option<Progress>) -> Held<2>
     ensures { octets_of result ≡ progress_octets (option_map progress_of progress) }
 {
     match progress {
-        Some(progress) => held(&[progress.location, progress.description]),
+        Some(progress) => Held::of(&[progress.location, progress.description]).unwrap(),
         None => Held::none(),
     }
 }
@@ -50,6 +42,6 @@ pub(crate) fn progress_octets(progress: Option<Progress>) -> Held<2>
 pub(crate) fn number_octets(number: &Number) -> Held<21>
     ensures { octets_of result ≡ number_octets (Some (number_of number.now)) }
 {
-    let kind: Held<21> = held(&[LAST + 16 * number.kind.code() + PLAN]);
+    let kind: Held<21> = Held::of(&[LAST + 16 * number.kind.code() + PLAN]).unwrap();
     kind.then(number.digits.as_octets()).unwrap()
 }

@@ -20,17 +20,6 @@ const TELEPHONY: u8 = 0x10;
 /// Where a number's signals begin: behind its length, its nature of address and its plan.
 const SIGNALS: usize = 3;
 
-/// These octets, held by value.
-fn held<const N: usize>(octets: &[u8]) -> Held<N>
-    requires { length octets.now ≤ N }
-    ensures { octets_of result ≡ octets.now }
-{
-    match Held::of(octets) {
-        Some(held) => held,
-        None => unreachable(),
-    }
-}
-
 /// Whether progress is in-band information.
 pub(crate) fn is_in_band(progress: Progress) -> bool
     ensures { result ≡ (described (progress_of progress) == 8) }
@@ -44,7 +33,7 @@ pub(crate) fn progress_octets(progress: Option<Progress>) -> Held<2>
 {
     match progress {
         Some(progress) if !is_in_band(progress) => {
-            held(&[progress.location, progress.description])
+            Held::of(&[progress.location, progress.description]).unwrap()
         }
         _ => Held::none(),
     }
@@ -54,7 +43,7 @@ pub(crate) fn progress_octets(progress: Option<Progress>) -> Held<2>
 pub(crate) fn cause_field(cause: Cause) -> Held<14>
     ensures { octets_of result ≡ with_length (cause_octets (Some (cause_of cause))) }
 {
-    held(&[2, 0x80 + cause.location(), 0x80 + cause.value()])
+    Held::of(&[2, 0x80 + cause.location(), 0x80 + cause.value()]).unwrap()
 }
 
 /// The bit that tells an odd count of signals.
@@ -75,5 +64,5 @@ pub(crate) fn number_field(number: &Number) -> Held<14>
     octets[0] = 2 + signals as u8;
     octets[1] = number.kind.nature() + odd_bit(number.digits.signals_odd());
     octets[2] = TELEPHONY;
-    held(&octets[..SIGNALS + signals])
+    Held::of(&octets[..SIGNALS + signals]).unwrap()
 }

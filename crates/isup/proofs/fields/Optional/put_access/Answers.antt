@@ -1,5 +1,6 @@
 use Rattle.held.specs.Held.{octets_of}
-use Rattle.isup.proofs.Optional.{held_few, nest_step}
+use Rattle.held.proofs.Lengths.{held_few}
+use Rattle.isup.proofs.Optional.{nest_step}
 use Rattle.isup.proofs.fields.Optional.put_access.Goals as goal
 
 pub returns : goal.returns

@@ -1,6 +1,7 @@
 use Rattle.std.proofs.Common.{arith}
 use Rattle.held.specs.Held.{octets_of}
-use Rattle.isup.proofs.Optional.{held_few, close_step}
+use Rattle.held.proofs.Lengths.{held_few}
+use Rattle.isup.proofs.Optional.{close_step}
 use Rattle.isup.proofs.fields.Optional.put_list.Goals as goal
 
 pub returns : goal.returns

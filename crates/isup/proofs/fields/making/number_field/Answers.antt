@@ -1,4 +1,4 @@
-use Rattle.std.proofs.Common.{◌+◌, ap, ◌∙◌}
+use Rattle.std.proofs.Common.{◌+◌, ap, ◌∙◌, rules}
 use Rattle.digits.specs.Dialling.{characters}
 use Rattle.digits.specs.Signals.{packed, ended}
 use Rattle.isup_meaning.specs.Writing.{odd_bit}
@@ -8,5 +8,5 @@ use Rattle.isup.proofs.fields.making.number_field.Goals as goal
 pub returns : goal.returns
 returns c =
     let odd = c.odd_bit.ensures ∙ ap odd_bit c.signals_odd.ensures in
-    c.held.ensures ∙ number_octets_are c.in-Ok.signals _ _ c.pack.new.out (packed (ended (characters c.args.number.now.digits)))
+    search rules ∙ number_octets_are c.in-Ok.signals _ _ c.pack.new.out (packed (ended (characters c.args.number.now.digits)))
     (λ i. c.nature.ensures.is i + odd i) c.in-Ok.ensures.0 c.in-Ok.ensures.1
