@@ -96,6 +96,7 @@ impl EndRule {
     fn ran_out(self, place: usize) -> Result<usize, ListFault>
         ensures { result ≡ ran_out_at self.end place }
     {
+        // Not `map_or`: its closure would hide which of the two is the fault.
         match self.end {
             Some(_) => Err(ListFault::NoEnd(place)),
             None => Ok(place),
@@ -167,6 +168,7 @@ impl<'a> Elements<'a> {
     pub fn end(mut self) -> Result<usize, ListFault>
         ensures { result ≡ verdict self.entry.rule (walk_from self.entry.rule self.entry.list.now self.entry.place) }
     {
+        // Not `for`: that would use the iterator up, which is asked below where it stopped.
         while self.next().is_some() {}
         match self.rule.look(self.list, self.place) {
             Seen::End => Ok(self.place + 1),

@@ -67,6 +67,7 @@ impl Described for Isup {
     }
 }
 
+// Two functions: they share no more than the call, and differ in the reader and in what it is called.
 /// A cause, of either coding.
 fn cause(contents: &[u8]) -> Meaning {
     let read = values::cause(contents);

@@ -32,6 +32,7 @@ const NUMBER: usize = 8;
 const FIRST_BACKWARD: usize = 3;
 /// The place of the second octet of backward indicators.
 const SECOND_BACKWARD: usize = 4;
+// Two bits of an octet, of which this alone is looked for; an enum of them would have one variant in use.
 /// The called party's status in the first of them: subscriber free.
 const SUBSCRIBER_FREE: u8 = 1;
 /// The place of the event, in a call progress message.
@@ -133,6 +134,7 @@ fn setup(body: Body<'_>) -> Result<Signal, Refusal>
     }))
 }
 
+// Two functions: each is one line, and a helper that takes the constructor would be a third.
 /// What a message says that rings the called party.
 fn alerting(body: Body<'_>, isdn: bool) -> Result<Signal, Refusal>
     ensures { signal_as result ≡ judged (parts_bad (body_of body.entry)) kind.Alerting (party_says isdn (body_of body.entry)) }

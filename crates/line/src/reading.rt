@@ -89,27 +89,17 @@ fn setup(message: &[u8]) -> Result<Signal, Refusal>
     }
 }
 
-/// What any other event says: it has no digits.
-fn other(message: &[u8], signal: Signal) -> Result<Signal, Refusal>
-    requires { 8 ≤ length message.now }
-    ensures { signal_as message.now result ≡ (if nat_eq (slice_index message.now 7) 0 then heard_as message.now (kind_of signal) (contents_of signal) else Err (refusal BadValue 7)) }
-{
-    if message[COUNT] != 0 {
-        return Err(System::Line.refuses(Reason::BadValue, COUNT));
-    }
-    Ok(signal)
-}
-
-/// What the body of a message says.
+/// What the body of a message says; a setup alone has digits.
 fn body(message: &[u8], event: Sent) -> Result<Signal, Refusal>
     requires { 8 ≤ length message.now }
     ensures { signal_as message.now result ≡ body_read message.now (kind_sent event) }
 {
     match event {
         Sent::Setup => setup(message),
-        Sent::Alerting => other(message, Signal::Alerting(None, false, Parts::none())),
-        Sent::Answer => other(message, Signal::Answer(None, false, Parts::none())),
-        Sent::Clear => other(message, Signal::Clear(Cause::normal(), Parts::none())),
+        _ if message[COUNT] != 0 => Err(System::Line.refuses(Reason::BadValue, COUNT)),
+        Sent::Alerting => Ok(Signal::Alerting(None, false, Parts::none())),
+        Sent::Answer => Ok(Signal::Answer(None, false, Parts::none())),
+        Sent::Clear => Ok(Signal::Clear(Cause::normal(), Parts::none())),
     }
 }
 

@@ -38,6 +38,7 @@ pub fn take_apart<'a, C: Coding>(list: &'a [u8], heap: Global) -> Result<Apart<'
 {
     let mut items = Vec::new(heap);
     let mut elements = Elements::of::<C>(list);
+    // Not `for`: that would use the iterator up, which is asked below how the list ends.
     while let Some(element) = elements.next() {
         items.push(Item::from(element))?;
     }

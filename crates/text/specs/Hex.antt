@@ -25,10 +25,6 @@ second p h (c ∷ cs) =
 abbrev pub octet_of : ℕ → ℕ → List ℕ → Result ℕ HexFault
 octet_of p c cs = elim (hex_value c) [ None ↦ Err (NotHex p) | Some h ↦ second p h cs ]
 
-abbrev pub octet_at : ℕ → List ℕ → Result ℕ HexFault
-octet_at p [] = Err (NotHex p)
-octet_at p (c ∷ cs) = octet_of p c cs
-
 -- octets put in front of those that are read
 abbrev pub joined : List ℕ → Result (List ℕ) HexFault → Result (List ℕ) HexFault
 joined front (Ok octets) = Ok (front ++ octets)

@@ -66,11 +66,9 @@ pub fn unpack(octets: &[u8], odd: bool) -> Result<Digits, DigitFault>
 }
 
 /// Signals come back from the octets that they are packed into, with or without an end signal among them.
-pub fn packing_is_undone() -> u8
+pub fn packing_is_undone()
     ensures { PackingIsUndone }
-{
-    0
-}
+{}
 
 impl Digits {
     /// The signal at place `k`: a digit's, then the end signal, and after it the spare 0.

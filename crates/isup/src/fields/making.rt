@@ -58,6 +58,7 @@ pub(crate) fn number_field(number: &Number) -> Held<14>
     ensures { octets_of result ≡ with_length (number_field (Some (number_of number.now))) }
 {
     let mut octets = [0u8; MOST];
+    // Eleven octets hold the signals of every number.
     let Ok(signals) = number.digits.pack(&mut octets[SIGNALS..]) else {
         unreachable()
     };
