@@ -29,6 +29,10 @@ pub const HIGH: u8 = 0x7D;
 /// The tag of user-user.
 pub const USER_USER: u8 = 0x7E;
 
+/// An octet that stands for nothing in its code: for no type of message, or for no event.
+#[derive(Clone, Copy, PartialEq, Eq, Debug)]
+pub struct UnknownOctet(pub u8);
+
 /// The progress in a list, if it is there and not cut short.
 pub fn progress(list: &[u8]) -> Option<Progress>
     ensures { Options.option_map signals.progress_of result ≡ progress_in list.now }
@@ -67,6 +71,7 @@ fn first_of(a: Refusal, b: Refusal) -> Refusal
     if a.place <= b.place { a } else { b }
 }
 
+// Options, and no Results that rise by `?`: of two faults the one at the smaller place counts, not the first asked for.
 /// What stands first, where something may stand against each of two things.
 pub fn earlier(a: Option<Refusal>, b: Option<Refusal>) -> Option<Refusal>
     ensures { result ≡ earlier a b }

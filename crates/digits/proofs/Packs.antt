@@ -11,7 +11,7 @@ use Rattle.digits.specs.declared.types.DigitFault.{DigitFault}
 use Rattle.digits.specs.declared.types.DigitFault.TheVariants.{TooMany}
 use Rattle.digits.specs.declared.number.Digits.{Digits}
 use Rattle.digits.specs.Dialling.{dialled, Number, characters}
-use Rattle.digits.specs.Signals.{signals, digits_of, ended, packed, octets_for, odd_count, halves, signal_at, but_last, signals_in, without_end, unpacked, Halves, PackingIsUndone}
+use Rattle.digits.specs.Signals.{signals, digits_of, ended, packed, octets_for, odd_count, halves, half_at, signal_at, but_last, signals_in, without_end, unpacked, Halves, PackingIsUndone}
 use Rattle.digits.proofs.Steps.{Digit, reads_itself, length_characters}
 
 -- the halves of octets
@@ -19,6 +19,27 @@ use Rattle.digits.proofs.Steps.{Digit, reads_itself, length_characters}
 pub length_halves : (os : List ℕ) → length (halves os) ≡ 2 * length os
 length_halves [] = refl
 length_halves (b ∷ bs) = omega (arith, length_halves bs)
+
+low_at : (os : List ℕ) (i : ℕ) → get_or (halves os) (2 * i) 0 ≡ get_or os i 0 % 16
+low_at [] i = refl
+low_at (b ∷ bs) zero = refl
+low_at (b ∷ bs) (suc i) = let e : 2 * suc i ≡ suc (suc (2 * i)) = omega arith in ap (λ n. get_or (halves (b ∷ bs)) n 0) e ∙ low_at bs i
+
+high_at : (os : List ℕ) (i : ℕ) → get_or (halves os) (suc (2 * i)) 0 ≡ get_or os i 0 / 16
+high_at [] i = refl
+high_at (b ∷ bs) zero = refl
+high_at (b ∷ bs) (suc i) = let e : suc (2 * suc i) ≡ suc (suc (suc (2 * i))) = omega arith in ap (λ n. get_or (halves (b ∷ bs)) n 0) e ∙ high_at bs i
+
+-- a half by its place is the one in the list of halves
+pub half_at_is : (os : List ℕ) (k : ℕ) → half_at os k ≡ get_or (halves os) k 0
+half_at_is os k = by (k % 2 == 0) refl where
+  by : (b : Bool) → b ≡ (k % 2 == 0) → (if b then get_or os (k / 2) 0 % 16 else get_or os (k / 2) 0 / 16) ≡ get_or (halves os) k 0
+  by true e = let p : 2 * (k / 2) ≡ k = grind (arith, nat_tests) in sym (low_at os (k / 2)) ∙ ap (λ n. get_or (halves os) n 0) p
+  by false e = let p : suc (2 * (k / 2)) ≡ k = grind (arith, nat_tests) in sym (high_at os (k / 2)) ∙ ap (λ n. get_or (halves os) n 0) p
+
+-- the high half of two signals in one octet
+pub high_of_signals : (s t : ℕ) → s < 16 → (s + 16 * t) / 16 ≡ t
+high_of_signals s t h = omega arith
 
 -- what octets are read as: a character for each half
 

@@ -36,6 +36,10 @@ abbrev pub halves : List ℕ → List ℕ
 halves [] = []
 halves (b ∷ bs) = b % 16 ∷ b / 16 ∷ halves bs
 
+-- one half of octets by its place, with no list of halves in between
+abbrev pub half_at : List ℕ → ℕ → ℕ
+half_at octets k = cond (k % 2 == 0) (slice_index octets (k / 2) % 16) (slice_index octets (k / 2) / 16)
+
 -- one signal of a number by its place: a digit's, then the end signal, then the spare 0
 abbrev pub signal_at : ℕ → List ℕ → ℕ → ℕ
 signal_at count octets k = cond (nat_lt k count) (slice_index octets k - 48) (cond (k == count) 15 0)

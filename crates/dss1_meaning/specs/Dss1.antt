@@ -29,7 +29,7 @@ use Rattle.carried.specs.Carried.{Five, five_in, parts_of, fault_of, part_at, pr
 pub use Rattle.carried.specs.Messages.{Said, numbered, there}
 use Rattle.dss1_meaning.specs.declared.types.MessageType.{MessageType}
 use Rattle.dss1_meaning.specs.declared.types.MessageType.TheVariants as type
-use Rattle.dss1_meaning.specs.declared.types.UnknownType.{UnknownType as UnknownOctet}
+use Rattle.carried.specs.declared.UnknownOctet.{UnknownOctet}
 
 abbrev pub refusal : Reason → ℕ → Refusal
 refusal r p = record { reason = r; place = p; system = Dss1; layer = Message }

@@ -2,17 +2,17 @@
 ghost use Rattle.std.specs.Prelude.{◌≡◌, ℕ};
 ghost use Rattle.dss1_meaning.specs.Dss1.{type_or_unknown, type_octet};
 
-use crate::types::{MessageType, UnknownType};
-use std::error::Error;
+use crate::types::MessageType;
+use carried::UnknownOctet;
 use std::fmt;
 
+/// The type that an octet stands for.
 impl TryFrom<u8> for MessageType {
-    type Error = UnknownType;
+    type Error = UnknownOctet;
 
     ghost try_from_gives = { λ octet result. result ≡ type_or_unknown octet };
 
-    /// The type that an octet stands for.
-    fn try_from(octet: u8) -> Result<Self, UnknownType> {
+    fn try_from(octet: u8) -> Result<MessageType, UnknownOctet> {
         match octet {
             0x01 => Ok(MessageType::Alerting),
             0x02 => Ok(MessageType::CallProceeding),
@@ -23,7 +23,7 @@ impl TryFrom<u8> for MessageType {
             0x45 => Ok(MessageType::Disconnect),
             0x4D => Ok(MessageType::Release),
             0x5A => Ok(MessageType::ReleaseComplete),
-            _ => Err(UnknownType(octet)),
+            _ => Err(UnknownOctet(octet)),
         }
     }
 }
@@ -52,11 +52,3 @@ impl fmt::Display for MessageType {
         })
     }
 }
-
-impl fmt::Display for UnknownType {
-    fn fmt<W: fmt::Write>(&self, f: &mut fmt::Formatter<W>) -> fmt::Result {
-        write!(f, "no type of message has octet {}", self.0)
-    }
-}
-
-impl Error for UnknownType {}

@@ -11,7 +11,3 @@ pub enum MessageType {
     Release = 0x4D,
     ReleaseComplete = 0x5A,
 }
-
-/// An octet that stands for no type of message.
-#[derive(Clone, Copy, PartialEq, Eq, Debug)]
-pub struct UnknownType(pub u8);

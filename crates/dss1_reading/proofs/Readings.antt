@@ -24,7 +24,7 @@ use Rattle.carried.specs.Carried.{parts_of, bad_at, both, refused}
 use Rattle.carried.specs.Messages.{Said, number_of}
 use Rattle.carried.proofs.Refusals.{both_refused_at, both_ok}
 use Rattle.dss1_meaning.specs.declared.types.MessageType.{MessageType}
-use Rattle.dss1_meaning.specs.declared.types.UnknownType.{UnknownType}
+use Rattle.carried.specs.declared.UnknownOctet.{UnknownOctet}
 use Rattle.dss1_meaning.specs.Dss1.{refusal, headed, type_in, exchange, named, Body, body_in, number_in, parts_bad, setup_says, setup_bad, setup_read, judged, body_read, heard_as, list_read, type_read, reads}
 use Rattle.dss1_reading.specs.Reads.{list_fault}
 
@@ -80,7 +80,7 @@ module _ (b : Body) (x : Result Bearer Refusal) (n : Result Number Refusal) (p :
         (λ i. record { bearer = X i; number = N i; progress = progress-is i; cause = None; isdn = true; parts = P i }) ∙ sym head
 
 -- a type that was found
-pub type_found : (o : Option MessageType) (t : MessageType) (u : UnknownType) → Ok t ≡ ok_or o u → Some t ≡ o
+pub type_found : (o : Option MessageType) (t : MessageType) (u : UnknownOctet) → Ok t ≡ ok_or o u → Some t ≡ o
 type_found None t u e = absurd (grind arith)
 type_found (Some s) t u e = grind arith
 

@@ -12,6 +12,7 @@ pub struct Message<'a> {
     pub reference: u8,
     /// Whether the message is sent to the side that began the call.
     pub to_origin: bool,
+    // An octet: a capture may hold any, and one that is no type is shown too.
     /// The code of its type.
     pub kind: u8,
     /// The four octets of the header.

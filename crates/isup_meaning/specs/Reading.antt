@@ -23,7 +23,7 @@ use Rattle.carried.specs.Carried.{Five, five_in, parts_of, fault_of, progress_in
 pub use Rattle.carried.specs.Messages.{Said, numbered, there}
 use Rattle.isup_meaning.specs.declared.types.MessageType.{MessageType}
 use Rattle.isup_meaning.specs.declared.types.MessageType.TheVariants as type
-use Rattle.isup_meaning.specs.declared.types.UnknownType.{UnknownType as UnknownOctet}
+use Rattle.carried.specs.declared.UnknownOctet.{UnknownOctet}
 
 abbrev pub refusal : Reason → ℕ → Refusal
 refusal r p = record { reason = r; place = p; system = Isup; layer = Message }

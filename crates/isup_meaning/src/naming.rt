@@ -2,15 +2,16 @@
 ghost use Rattle.std.specs.Prelude.{◌≡◌, ℕ};
 ghost use Rattle.isup_meaning.specs.Reading.{type_or_unknown, type_octet};
 
-use crate::types::{MessageType, UnknownType};
+use crate::types::MessageType;
+use carried::UnknownOctet;
 
 /// The type that an octet stands for.
 impl TryFrom<u8> for MessageType {
-    type Error = UnknownType;
+    type Error = UnknownOctet;
 
     ghost try_from_gives = { λ octet result. result ≡ type_or_unknown octet };
 
-    fn try_from(octet: u8) -> Result<MessageType, UnknownType> {
+    fn try_from(octet: u8) -> Result<MessageType, UnknownOctet> {
         match octet {
             0x01 => Ok(MessageType::InitialAddress),
             0x06 => Ok(MessageType::AddressComplete),
@@ -19,7 +20,7 @@ impl TryFrom<u8> for MessageType {
             0x0C => Ok(MessageType::Release),
             0x10 => Ok(MessageType::ReleaseComplete),
             0x2C => Ok(MessageType::CallProgress),
-            _ => Err(UnknownType(octet)),
+            _ => Err(UnknownOctet(octet)),
         }
     }
 }

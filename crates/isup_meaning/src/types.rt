@@ -1,4 +1,3 @@
-use std::error::Error;
 use std::fmt;
 
 /// The types of message on a trunk, with the octet that stands for each.
@@ -20,10 +19,6 @@ pub enum MessageType {
     ReleaseComplete = 0x10,
 }
 
-/// An octet that stands for no type of message.
-#[derive(Clone, Copy, PartialEq, Eq, Debug)]
-pub struct UnknownType(pub u8);
-
 impl fmt::Display for MessageType {
     fn fmt<W: fmt::Write>(&self, f: &mut fmt::Formatter<W>) -> fmt::Result {
         f.write_str(match self {
@@ -37,11 +32,3 @@ impl fmt::Display for MessageType {
         })
     }
 }
-
-impl fmt::Display for UnknownType {
-    fn fmt<W: fmt::Write>(&self, f: &mut fmt::Formatter<W>) -> fmt::Result {
-        write!(f, "no type of message has octet {:02X}", self.0)
-    }
-}
-
-impl Error for UnknownType {}

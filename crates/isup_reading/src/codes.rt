@@ -2,8 +2,7 @@
 ghost use Rattle.std.specs.Prelude.{◌≡◌, ℕ};
 ghost use Rattle.isup_reading.specs.Events.{event_or_unknown, event_octet};
 
-use std::error::Error;
-use std::fmt;
+use carried::UnknownOctet;
 
 /// The tag of access transport in the optional list.
 pub const ACCESS: u8 = 0x03;
@@ -23,10 +22,6 @@ pub enum Event {
     InBand = 0x03,
 }
 
-/// An octet that stands for no event.
-#[derive(Clone, Copy, PartialEq, Eq, Debug)]
-pub struct UnknownEvent(pub u8);
-
 impl Event {
     /// The octet that stands for this event.
     pub fn octet(self) -> u8
@@ -38,24 +33,16 @@ impl Event {
 
 /// The event that an octet stands for.
 impl TryFrom<u8> for Event {
-    type Error = UnknownEvent;
+    type Error = UnknownOctet;
 
     ghost try_from_gives = { λ octet result. result ≡ event_or_unknown octet };
 
-    fn try_from(octet: u8) -> Result<Event, UnknownEvent> {
+    fn try_from(octet: u8) -> Result<Event, UnknownOctet> {
         match octet {
             0x01 => Ok(Event::Alerting),
             0x02 => Ok(Event::Progress),
             0x03 => Ok(Event::InBand),
-            _ => Err(UnknownEvent(octet)),
+            _ => Err(UnknownOctet(octet)),
         }
     }
 }
-
-impl fmt::Display for UnknownEvent {
-    fn fmt<W: fmt::Write>(&self, f: &mut fmt::Formatter<W>) -> fmt::Result {
-        write!(f, "no event of call progress has octet {:02X}", self.0)
-    }
-}
-
-impl Error for UnknownEvent {}

@@ -76,6 +76,7 @@ impl<'a> Body<'a> {
         }
     }
 
+    // An Option, as all that is asked for here: of several faults the one at the smallest place is told.
     /// Everything that is broken, the smallest place first.
     fn broken(self, kind: MessageType) -> Option<Refusal>
         ensures { result ≡ broken (body_of self.entry).octets kind (body_of self.entry) }
@@ -97,6 +98,7 @@ impl<'a> Body<'a> {
             return Err(System::Isup.refuses(Reason::Malformed, 0));
         }
         let body = Body::of(message, kind);
+        // Not `map_or(Ok(body), Err)`, which reads as if a refusal were the rule.
         match body.broken(kind) {
             Some(refusal) => Err(refusal),
             None => Ok(body),

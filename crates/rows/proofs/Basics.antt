@@ -1,5 +1,5 @@
 -- Legs, updates of a state, and lists. Assumes nothing.
-use Rattle.std.proofs.Common.{◌≡◌, ℕ, Bool, true, false, cond, eqb, List, [], ◌∷◌, ◌++◌, length, Some, None, Option, refl, ap, ap₂, arith}
+use Rattle.std.proofs.Common.{◌≡◌, ℕ, Bool, true, false, cond, T, eqb, List, [], ◌∷◌, ◌++◌, length, Some, None, Option, refl, ap, ap₂, arith}
 use mathlib.Core.Bool.{false≢true}
 use Rattle.std.proofs.lemmas.Bool.{and_parts, eq-eqb, eqb-true}
 use Rattle.rows.specs.declared.kinds.Which.{Which}
@@ -11,6 +11,11 @@ some_inj e = cc
 
 pub none_some : {A : Type 0} {a : A} → ◌≡◌ {A = Option A} None (Some a) → ⊥
 none_some e = let z : ◌≡◌ {A = ℕ} 0 1 = cc in omega arith
+
+-- a Boolean that holds is true
+pub of_t : (b : Bool) → T b → b ≡ true
+of_t true t = refl
+of_t false t = absurd t
 
 pub other_other : (w : Which) → other (other w) ≡ w
 other_other First = refl

@@ -74,6 +74,7 @@ pub enum Signal {
 #[derive(Clone, Copy)]
 pub struct Reading {
     pub leg: Leg,
+    // An octet: each system has types of its own, and a reading is one type for all of them.
     pub heard: u8,
     pub signal: Signal,
 }

@@ -31,6 +31,7 @@ fn second_digit(after: &[u8], place: usize, high: u8) -> Result<u8, HexFault>
     match after {
         [] => Err(HexFault::OddDigit(place)),
         [c, ..] if is_blank(*c) => Err(HexFault::OddDigit(place)),
+        // By cases: that the sum fits is known where the digit is.
         [c, ..] => match hex_digit(char::from(*c)) {
             Some(low) => Ok(16 * high + low),
             None => Err(HexFault::NotHex(place + 1)),

@@ -1,6 +1,7 @@
 //! The usual names of message types, elements, parameters, causes and the like.
 //!
 //! Of octets and not of enums: a capture may hold any octet, and each is shown.
+
 /// The name of a message type of DSS 1.
 pub fn message_type(code: u8) -> &'static str {
     match code {

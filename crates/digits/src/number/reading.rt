@@ -38,6 +38,7 @@ impl Digits {
         if text.len() > MOST_DIGITS {
             return Err(DigitFault::TooMany);
         }
+        // By cases: only where there is no stray may the text be held.
         match first_stray(text) {
             Some(at) => Err(DigitFault::NotADigit(at)),
             None => Ok(Digits::hold(text)),
