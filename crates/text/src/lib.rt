@@ -5,6 +5,6 @@ mod hex;
 mod types;
 mod words;
 
-pub use hex::{Octets, hex_digit, read_octets};
+pub use hex::{Characters, Octets, hex_digit, read_octets};
 pub use types::HexFault;
 pub use words::{Lines, first_word, is_blank, next_line, without_comment};
