@@ -13,12 +13,7 @@ pub fn hex_digit(c: char) -> Option<u8>
     ensures value { result ≡ hex_value c }
     ensures small { IfSome result (λ d. d < 16) }
 {
-    match c {
-        '0'..='9' => Some(c as u8 - b'0'),
-        'A'..='F' => Some(c as u8 - b'A' + 10),
-        'a'..='f' => Some(c as u8 - b'a' + 10),
-        _ => None,
-    }
+    c.to_digit(16).map(|value| value as u8)
 }
 
 /// The octet whose first hex digit, worth `high`, stands at a place, and whose second is to come.
@@ -31,11 +26,10 @@ fn second_digit(after: &[u8], place: usize, high: u8) -> Result<u8, HexFault>
     match after {
         [] => Err(HexFault::OddDigit(place)),
         [c, ..] if is_blank(*c) => Err(HexFault::OddDigit(place)),
-        // By cases: that the sum fits is known where the digit is.
-        [c, ..] => match hex_digit(char::from(*c)) {
-            Some(low) => Ok(16 * high + low),
-            None => Err(HexFault::NotHex(place + 1)),
-        },
+        [c, ..] => {
+            let low = hex_digit(char::from(*c)).ok_or(HexFault::NotHex(place + 1))?;
+            Ok(16 * high + low)
+        }
     }
 }
 
@@ -45,10 +39,8 @@ fn octet_of(first: u8, after: &[u8], place: usize) -> Result<u8, HexFault>
     ensures octet { result ≡ octet_of place first after.now }
     ensures within { OnOk result (1 ≤ length after.now) }
 {
-    match hex_digit(char::from(first)) {
-        Some(high) => second_digit(after, place, high),
-        None => Err(HexFault::NotHex(place)),
-    }
+    let high = hex_digit(char::from(first)).ok_or(HexFault::NotHex(place))?;
+    second_digit(after, place, high)
 }
 
 /// Reads octets in hex: two digits each, of either case, with or without blanks between the octets.
