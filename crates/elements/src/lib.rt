@@ -16,6 +16,7 @@ pub mod types;
 use types::{EndRule, ListElement, ListFault, Seen};
 
 /// A coding of element lists.
+// Code reads the constants and clauses their ghosts; `rule` is both as one value, for clauses about a coding.
 pub trait Coding: Copy {
     /// The tag that ends a list, or none.
     const END: Option<u8>;
@@ -96,7 +97,7 @@ impl EndRule {
     fn ran_out(self, place: usize) -> Result<usize, ListFault>
         ensures { result ≡ ran_out_at self.end place }
     {
-        // Not `map_or`: its closure would hide which of the two is the fault.
+        // By cases: the two answers are as short as the closure of a map_or would be.
         match self.end {
             Some(_) => Err(ListFault::NoEnd(place)),
             None => Ok(place),
@@ -141,6 +142,7 @@ pub fn look<C: Coding>(list: &[u8], place: usize) -> Seen
     ensures seen { result ≡ seen C.rule (drop place list.now) }
     ensures within { elim result [ Nothing ↦ length list.now ≤ place | End ↦ place < length list.now | Single ↦ place < length list.now | Element n ↦ place + 2 + n ≤ length list.now | Broken ↦ place < length list.now ] }
 {
+    // The method of the rule, for callers that name a coding and hold no rule.
     C::end_rule().look(list, place)
 }
 
@@ -168,7 +170,7 @@ impl<'a> Elements<'a> {
     pub fn end(mut self) -> Result<usize, ListFault>
         ensures { result ≡ verdict self.entry.rule (walk_from self.entry.rule self.entry.list.now self.entry.place) }
     {
-        // Not `for`: that would use the iterator up, which is asked below where it stopped.
+        // By next: over a lent iterator the proof of the walk did not close; after it nothing was known of self.
         while self.next().is_some() {}
         match self.rule.look(self.list, self.place) {
             Seen::End => Ok(self.place + 1),

@@ -84,7 +84,7 @@ impl fmt::Display for ListFault {
     ghost output = { λ fault. Some (fault_text fault) };
 
     fn fmt<W: fmt::Write>(&self, f: &mut fmt::Formatter<W>) -> fmt::Result {
-        match *self {
+        match self {
             ListFault::BreaksOff(place) => {
                 write!(f, "an element breaks off; its tag stands at place {place}")
             }
