@@ -4,7 +4,7 @@
 //! that the next step takes away; the buffer is lent anew for each step. Only a closed message has a length.
 #![tactic(auto)]
 
-ghost use Rattle.std.specs.Prelude.{◌≡◌, ℕ, ◌+◌, ◌^◌, ◌<◌, ◌≤◌, List, [], ◌∷◌, ◌++◌, length, take, drop, IfNone, Some, None, MatchResult};
+ghost use Rattle.std.specs.Prelude.{◌≡◌, ℕ, ◌+◌, ◌^◌, ◌<◌, ◌≤◌, List, [], ◌∷◌, ◌++◌, length, take, drop, slice_set, IfNone, Some, None, MatchResult};
 ghost use Rattle.writer.specs.declared.types.WriteFault.TheVariants.{NoRoom};
 ghost use Rattle.writer.specs.Items.{octets_of, written, item_fault, last_of, table_fault, nest_fault};
 ghost use Rattle.writer.specs.Written.{element, ending, room_fault, element_fault, single_fault, Step, ListStep};
@@ -41,6 +41,16 @@ fn put(buf: &mut [u8], at: usize, octets: &[u8]) -> Result<usize, WriteFault>
     let end = reach(at, octets.len(), buf.len())?;
     buf[at..end].copy_from_slice(octets);
     Ok(end)
+}
+
+/// The head of an element at a place: its tag and its length.
+fn put_head(buf: &mut [u8], at: usize, tag: u8, n: usize)
+    requires room { at + 2 ≤ length buf.old }
+    requires small { n ≤ 255 }
+    ensures { buf.new ≡ slice_set (slice_set buf.old at tag) (at + 1) n }
+{
+    buf[at] = tag;
+    buf[at + 1] = n as u8;
 }
 
 impl Open {
@@ -115,8 +125,7 @@ impl<C: Coding> Listing<C> {
         let (standing, coding) = self.into_parts(buf);
         let n = contents.len();
         let next = standing.element(tag, n)?;
-        buf[at] = tag;
-        buf[at + 1] = n as u8;
+        put_head(buf, at, tag, n);
         buf[at + 2..at + 2 + n].copy_from_slice(contents);
         Ok(Listing::from_parts(next, coding))
     }
@@ -148,8 +157,7 @@ impl<C: Coding> Listing<C> {
         let (standing, coding) = self.into_parts(buf);
         let n = nested.length;
         let next = standing.element(tag, n)?;
-        buf[at] = tag;
-        buf[at + 1] = n as u8;
+        put_head(buf, at, tag, n);
         Ok(Listing::from_parts(next, coding))
     }
 

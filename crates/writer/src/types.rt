@@ -35,7 +35,7 @@ impl fmt::Display for WriteFault {
     ghost output = { λ fault. Some (write_fault_text fault) };
 
     fn fmt<W: fmt::Write>(&self, f: &mut fmt::Formatter<W>) -> fmt::Result {
-        f.write_str(match *self {
+        f.write_str(match self {
             WriteFault::NotATag => "a tag that no element of this coding may have",
             WriteFault::OutOfOrder => "the tags are not in ascending order",
             WriteFault::TooLong => "more contents than a length octet can tell",

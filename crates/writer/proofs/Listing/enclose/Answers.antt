@@ -7,7 +7,7 @@ pub returns : goal.returns
 returns g c = (
   record {
     fine = grind (arith, common_steps);
-    adds = moved refl (grind (arith, common_steps)) (headed c.args.buf.now c.args.self.at c.args.tag c.args.nested.length (grind (arith, common_steps)));
+    adds = rw (c.put_head.ensures) (moved refl (grind (arith, common_steps)) (headed c.args.buf.now c.args.self.at c.args.tag c.args.nested.length (grind (arith, common_steps))));
   },
   grind (arith, common_steps),
 )
