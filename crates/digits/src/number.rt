@@ -9,6 +9,7 @@ pub use reading::is_digit;
 
 /// A dialled number: 1 to 20 digits as IA5 characters, held by value.
 // A fixed array and a count: what a side holds is of fixed size and copied, so no Vec and no String.
+// Not Held: behind the digits stand zeros, which Held does not say.
 #[derive(Clone, Copy, Eq, Debug)]
 pub struct Digits {
     octets: [u8; MOST_DIGITS],

@@ -38,7 +38,7 @@ pub fn take_apart<'a, C: Coding>(list: &'a [u8], heap: Global) -> Result<Apart<'
 {
     let mut items = Vec::new(heap);
     let mut elements = Elements::of::<C>(list);
-    // Not `for`: that would use the iterator up, which is asked below how the list ends.
+    // By next: over a lent iterator the proof of the walk did not close; after it nothing was known of the elements.
     while let Some(element) = elements.next() {
         items.push(Item::from(element))?;
     }

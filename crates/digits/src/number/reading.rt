@@ -12,6 +12,7 @@ use crate::types::{DigitFault, MOST_DIGITS};
 pub fn is_digit(c: char) -> bool
     ensures { result ≡ digit_char c }
 {
+    // A range of characters, and not `is_ascii_digit`: it reads as the rule does.
     match c {
         '0'..='9' => true,
         _ => false,
