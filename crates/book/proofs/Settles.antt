@@ -4,20 +4,21 @@ use Rattle.std.proofs.lemmas.Bool.{lt-ltb, ltb-true}
 use Rattle.std.specs.Option.{ok_or}
 use Rattle.side.specs.declared.kinds.Kind.{Kind}
 use Rattle.side.specs.declared.kinds.Refusal.{Refusal}
+use Rattle.side.specs.declared.kinds.System.{System}
 use Rattle.side.specs.Table.{heard_in, told_in}
 use Rattle.side.specs.Signals.{Contents, Heard}
 use Rattle.side.specs.Meaning.{Meaning}
 use Rattle.side.specs.Steps.{After, written, row_fault, settled, Did}
 
 -- a leg that was found is there, and the record is its own
-pub found : {R : Type 0} (rs : List R) (l : ℕ) (d r : R) → Some r ≡ cond (ltb l (length rs)) (Some (get_or rs l d)) None → (l < length rs) × (r ≡ get_or rs l d)
+found : {R : Type 0} (rs : List R) (l : ℕ) (d r : R) → Some r ≡ cond (ltb l (length rs)) (Some (get_or rs l d)) None → (l < length rs) × (r ≡ get_or rs l d)
 found rs l d r e = at (ltb l (length rs)) refl e
   where
     at : (b : Bool) → ltb l (length rs) ≡ b → Some r ≡ cond b (Some (get_or rs l d)) None → (l < length rs) × (r ≡ get_or rs l d)
     at true t h = (ltb-true l (length rs) t, grind arith)
     at false t h = absurd (grind arith)
 
-pub missing : {R : Type 0} (rs : List R) (l : ℕ) (x : R) → None ≡ cond (ltb l (length rs)) (Some x) None → ltb l (length rs) ≡ false
+missing : {R : Type 0} (rs : List R) (l : ℕ) (x : R) → None ≡ cond (ltb l (length rs)) (Some x) None → ltb l (length rs) ≡ false
 missing rs l x e = at (ltb l (length rs)) refl e
   where
     at : (b : Bool) → ltb l (length rs) ≡ b → None ≡ cond b (Some x) None → ltb l (length rs) ≡ false
@@ -25,7 +26,7 @@ missing rs l x e = at (ltb l (length rs)) refl e
     at false t h = t
 
 -- the refusal of what was not there
-pub lost : {R : Type 0} (o : Option R) (e f : Refusal) → Err e ≡ ok_or o f → (None ≡ o) × (e ≡ f)
+lost : {R : Type 0} (o : Option R) (e f : Refusal) → Err e ≡ ok_or o f → (None ≡ o) × (e ≡ f)
 lost None e f h = (refl, grind arith)
 lost (Some r) e f h = absurd (grind arith)
 
@@ -71,16 +72,23 @@ module _ {R : Type 0} (M : Meaning R) (rs : List R) (a : Asked R) (buffer : List
       let x = found rs a.leg M.blank r f in
       ap (λ q. after (fault (a.row q)) q) x.1 ∙ ap (λ t. after (fault (t && a.row own)) own) (sym (lt-ltb a.leg (length rs) x.0))
 
-  pub balks : (r : R) (e : Refusal) (buffer' : List ℕ) → Some r ≡ cond (ltb a.leg (length rs)) (Some own) None → (fault (a.row r) ≡ Some e) × (buffer' ≡ buffer) → Did step (Err e) rs buffer'
-  balks r e buffer' f x = subst (λ w. Did w (Err e) rs buffer') (ap (λ o. after o r) (sym x.0) ∙ there r f) (record { answered = refl; left = refl; wrote = x.1 })
+  -- what the book answers of the leg's record says what becomes of the side
+  module _ (o : Option R) (got : o ≡ cond (ltb a.leg (length rs)) (Some own) None) where
+    pub has : (r : R) → o ≡ Some r → a.leg < length rs
+    has r f = (found rs a.leg M.blank r (sym f ∙ got)).0
 
-  pub settles : (r q : R) (n : ℕ) (rs' : List R) (buffer' : List ℕ) → Some r ≡ cond (ltb a.leg (length rs)) (Some own) None →
-      (fault (a.row r) ≡ None) × (q ≡ a.next r) × (n ≡ length (a.message r)) × (buffer' ≡ written (a.message r) buffer) → rs' ≡ set rs a.leg q → Did step (Ok n) rs' buffer'
-  settles r q n rs' buffer' f x y =
-      subst (λ w. Did w (Ok n) rs' buffer') (ap (λ o. after o r) (sym x.0) ∙ there r f) (record { answered = ap Ok x.2; left = y ∙ ap (set rs a.leg) x.1; wrote = x.3 })
+    pub balks : (r : R) (e : Refusal) (buffer' : List ℕ) → o ≡ Some r → (fault (a.row r) ≡ Some e) × (buffer' ≡ buffer) → Did step (Err e) rs buffer'
+    balks r e buffer' f x = subst (λ w. Did w (Err e) rs buffer') (ap (λ u. after u r) (sym x.0) ∙ there r (sym f ∙ got)) (record { answered = refl; left = refl; wrote = x.1 })
 
-  -- without the leg there is no row
-  pub lacks : (e : Refusal) → None ≡ cond (ltb a.leg (length rs)) (Some own) None → Some e ≡ fault false → Did step (Err e) rs buffer
-  lacks e f x =
-      subst (λ w. Did w (Err e) rs buffer) (ap (λ o. after o own) x ∙ ap (λ t. after (fault (t && a.row own)) own) (sym (missing rs a.leg own f)))
-      (record { answered = refl; left = refl; wrote = refl })
+    pub settles : (r q : R) (n : ℕ) (rs' : List R) (buffer' : List ℕ) → o ≡ Some r →
+        (fault (a.row r) ≡ None) × (q ≡ a.next r) × (n ≡ length (a.message r)) × (buffer' ≡ written (a.message r) buffer) → rs' ≡ set rs a.leg q → Did step (Ok n) rs' buffer'
+    settles r q n rs' buffer' f x y =
+        subst (λ w. Did w (Ok n) rs' buffer') (ap (λ u. after u r) (sym x.0) ∙ there r (sym f ∙ got)) (record { answered = ap Ok x.2; left = y ∙ ap (set rs a.leg) x.1; wrote = x.3 })
+
+    -- without the leg there is no row
+    pub lacks : (e f : Refusal) (s : System) → Err e ≡ ok_or o f → Some f ≡ row_fault s (length buffer) false → s ≡ M.system → Did step (Err e) rs buffer
+    lacks e f s h x y =
+        let p = lost o e f h in
+        let z : Some e ≡ fault false = ap Some p.1 ∙ x ∙ ap (λ t. row_fault t (length buffer) false) y in
+        subst (λ w. Did w (Err e) rs buffer) (ap (λ u. after u own) z ∙ ap (λ t. after (fault (t && a.row own)) own) (sym (missing rs a.leg own (p.0 ∙ got))))
+        (record { answered = refl; left = refl; wrote = refl })

@@ -41,7 +41,3 @@ setup_read_from m r e = ap (setup_read m) (e ∙ ap dialled (take_rest m 8))
 pub whole : (n : ℕ) (o : List ℕ) (k : Kind) → true ≡ headed o → Some k ≡ event_kind (get_or o 6 0) → (ltb (get_or o 5 0) n && ltb (get_or o 5 0) 64) ≡ true → get_or o 7 0 ≡ length o - 8 → body_read o k ≡ reads n o
 whole n o k h e l c =
     sym (cond-true _ _ _ (sym h) ∙ ap (event_read n o) (sym e) ∙ cond-true _ _ _ l ∙ cond-true _ _ _ (eq-eqb (get_or o 7 0) (length o - 8) c))
-
--- a leg that was found has the number that was looked for
-pub leg_found : (b : Bool) (l x : ℕ) → Some l ≡ cond b (Some x) None → (b ≡ true) × (l ≡ x)
-leg_found b l x e = (grind arith, grind arith)

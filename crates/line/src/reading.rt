@@ -12,6 +12,7 @@ use side::contents::{Bearer, Cause, Number, Reading, Setup, Signal};
 use side::kinds::{Reason, Refusal, System};
 use side::leg::Leg;
 use side::parts::Parts;
+use side::refusing::LONGEST;
 use values::NumberType;
 
 /// The places of a message's head.
@@ -22,8 +23,6 @@ const EVENT: usize = 6;
 const COUNT: usize = 7;
 /// How many octets the head has; the digits stand behind it.
 const HEAD: usize = 8;
-/// The longest message.
-const LONGEST: usize = 255;
 
 /// Whether a message has a head.
 fn has_head(message: &[u8]) -> bool
@@ -111,9 +110,8 @@ pub fn read(legs: usize, message: &[u8]) -> Result<Reading, Refusal>
         return Err(System::Line.refuses(Reason::Malformed, 0));
     }
     let event = Sent::try_from(message[EVENT])?;
-    let Some(leg) = Leg::among(usize::from(message[LINE]), legs) else {
-        return Err(System::Line.refuses(Reason::NoSuchLeg, LINE));
-    };
+    let no_leg = System::Line.refuses(Reason::NoSuchLeg, LINE);
+    let leg = Leg::among(usize::from(message[LINE]), legs).ok_or(no_leg)?;
     if usize::from(message[COUNT]) != message.len() - HEAD {
         return Err(System::Line.refuses(Reason::Malformed, COUNT));
     }

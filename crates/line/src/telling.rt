@@ -36,6 +36,7 @@ fn dialled_after(signal: &Signal, before: Option<Dialled>) -> Option<Dialled>
     }
 }
 
+// Each system has its own `take` and `tell`: what is kept and written differs; what is alike is `check_row` and the table.
 /// Takes what was read: nothing is replied, and a line that clears is free at once.
 pub fn take(
     before: LineRecord,
@@ -81,10 +82,9 @@ fn write_event(leg: Leg, event: Option<Told>, out: &mut [u8]) -> usize
 {
     match event {
         Some(event) => {
-            let length = 8;
             let octets = [b'L', b'I', b'N', 0x00, 0x01, leg.octet(), event as u8, 0x00];
-            out[..8].copy_from_slice(&octets);
-            length
+            out[..octets.len()].copy_from_slice(&octets);
+            octets.len()
         }
         None => 0,
     }

@@ -9,18 +9,11 @@ use Rattle.side.specs.Limits.{cost}
 use Rattle.side.specs.Contents.{Part, part, five}
 use Rattle.side.specs.Signals.{Contents}
 use Rattle.side.specs.Meaning.{PartsWithin, Within, keep}
+use Rattle.side.proofs.Keeps.{keep_append}
 use Rattle.rows.specs.Sides.{Side}
 use Rattle.rows.specs.Exchange.{is_user_user, passed, cut_contents}
 use Rattle.rows.specs.Accounting.{is_clear, clearing_in}
 use Rattle.rows.proofs.Track.{clear_is}
-
-keep_append : (f : Part → Bool) (xs ys : List Part) → keep f (xs ++ ys) ≡ keep f xs ++ keep f ys
-keep_append f [] ys = refl
-keep_append f (x ∷ xs) ys = go (keep_append f xs ys) (f x)
-  where
-    go : keep f (xs ++ ys) ≡ keep f xs ++ keep f ys → (b : Bool) → cond b (x ∷ keep f (xs ++ ys)) (keep f (xs ++ ys)) ≡ cond b (x ∷ keep f xs) (keep f xs) ++ keep f ys
-    go e true = ap (λ (r : List Part). x ∷ r) e
-    go e false = e
 
 -- a part that passes the test is kept, and one that does not is not
 keep_part : (f : Part → Bool) (t : ℕ) (x : List ℕ) (b : Bool) → f (record { tag = t; contents = x }) ≡ b → keep f (part t x) ≡ cond b (part t x) []

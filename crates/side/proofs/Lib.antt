@@ -1,2 +1,4 @@
 pub mod Builds
 pub mod Limited
+pub mod Legs
+pub mod Keeps

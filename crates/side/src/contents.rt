@@ -11,6 +11,7 @@ use values::{Capability, NumberType};
 
 /// A bearer capability that is served: 2 to 11 octets.
 // An array of fixed size: readings are copied, and nothing is allocated for them.
+// Not `Held`: there is more to say of these octets, for the first one names the capability.
 #[derive(Clone, Copy)]
 pub struct Bearer {
     octets: [u8; 11],

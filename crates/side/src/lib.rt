@@ -80,7 +80,7 @@ pub trait Side {
     type Record: Copy;
 
     /// The most legs.
-    // Named in no clause: a book's is its system's, and a constant that is another's gets no clause of a trait yet.
+    // No clause names it: a leg book's is its system's, and the toolchain takes no clause about a constant that is defined by another's.
     const MOST_LEGS: usize;
 
     ghost meaning: { Meaning Self.Record };

@@ -25,6 +25,7 @@ struct Lengths {
 ///
 /// Their contents stand one behind another, in the order of their tags.
 // An array of fixed size: readings are copied, and nothing is allocated for them.
+// Not `Held`: there is more to say of these octets, for five contents stand in them one behind another.
 #[derive(Clone, Copy)]
 pub struct Parts {
     octets: [u8; 200],

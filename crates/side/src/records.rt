@@ -1,5 +1,6 @@
 use crate::kinds::Phase;
 
+// Three records and no generic one: they keep different things, and a host reads the fields by their names.
 /// What is kept of a DSS 1 call place: its phase and the cause value last heard.
 #[derive(Clone, Copy)]
 pub struct Dss1Record {
@@ -23,6 +24,7 @@ pub struct CircuitRecord {
 
 /// A number as a record keeps it: its digits as IA5 characters, padded with zeros.
 // An array and a count: a record is of fixed size and copied whole, and the host that lends it reads it as it lies.
+// Not `Digits`: a host may lend a record with any octets in it, and these need not be digits.
 #[derive(Clone, Copy)]
 pub struct Dialled {
     pub octets: [u8; 20],

@@ -8,6 +8,9 @@ use crate::kinds::{Layer, Reason, Refusal, System};
 /// The least octets of a buffer: every message fits, with one to spare.
 pub const LEAST_BUFFER: usize = 256;
 
+/// The longest message, in octets: one less than the least buffer.
+pub const LONGEST: usize = 255;
+
 /// The refusal of a leg that has no row for what is asked, or of a buffer that is too short.
 pub fn no_row(system: System, room: usize) -> Refusal
     ensures { Some result ≡ row_fault system room false }

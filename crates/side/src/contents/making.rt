@@ -63,9 +63,7 @@ impl Cause {
             None
         }
     }
-}
 
-impl Cause {
     /// The cause that the contents of an element say, or `None` where they are cut short.
     pub fn read(contents: &[u8]) -> Option<Cause>
         ensures { Options.option_map cause_of result ≡ cause_in contents.now }

@@ -1,7 +1,7 @@
 ghost use Rattle.std.specs.Prelude.{◌≡◌, ℕ, ◌<◌, ◌≤◌, ◌&&◌, if◌then◌else◌, Some, None, nat_lt};
 ghost use Rattle.std.specs.Option.{option_map};
 
-use super::Leg;
+use super::{Leg, MOST_LEGS};
 
 impl Leg {
     /// The leg with a number, if there can be one.
@@ -9,7 +9,7 @@ impl Leg {
         ensures { option_map (λ l. l.number) result ≡ (if nat_lt number 64 then Some number else None) }
     {
         match u8::try_from(number) {
-            Ok(number) if number < 64 => Some(Leg { number }),
+            Ok(octet) if number < MOST_LEGS => Some(Leg { number: octet }),
             _ => None,
         }
     }

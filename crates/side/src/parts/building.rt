@@ -171,6 +171,7 @@ impl Parts {
         let Parts { octets, lengths } = self;
         Parts {
             octets,
+            // Written out: the toolchain takes no `..` in a literal of a struct with ghost fields.
             lengths: Lengths {
                 calling: lengths.calling,
                 called: lengths.called,
