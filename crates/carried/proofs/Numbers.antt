@@ -3,7 +3,7 @@ use Rattle.std.proofs.Common.{◌≡◌, ℕ, Bool, false, cond, eqb, ltb, List,
 use Rattle.std.proofs.lemmas.Bool.{ltb-false, eqb-false}
 use Rattle.digits.specs.declared.types.DigitFault.TheVariants.{NoDigits, TooMany, NotADigit}
 use Rattle.digits.specs.Dialling.{stray_from, dialled, Number}
-use Rattle.digits.proofs.Steps.{all_digits, reads_itself}
+use Rattle.digits.proofs.Steps.{all_digits}
 
 -- a text that dials a number is one
 pub text_of_number : (text d : List ℕ) → dialled text ≡ Ok d → Number d
@@ -14,7 +14,3 @@ text_of_number text d e =
   where
     only : (a b : Bool) (o : Option ℕ) (text d : List ℕ) → cond a (Err NoDigits) (cond b (Err TooMany) (elim o [ None ↦ Ok text | Some k ↦ Err (NotADigit k) ])) ≡ Ok d → (text ≡ d) × (a ≡ false) × (b ≡ false) × (o ≡ None)
     only a b o text d h = (grind arith, grind arith, grind arith, grind arith)
-
--- and a number is a text that dials it
-pub number_of_text : (d : List ℕ) → Number d → dialled d ≡ Ok d
-number_of_text d h = reads_itself d h

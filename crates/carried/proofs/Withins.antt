@@ -9,24 +9,18 @@ use Rattle.side.specs.declared.kinds.Kind.TheVariants.{Setup, Progress, Quiet, C
 use Rattle.side.specs.declared.kinds.Refusal.{Refusal}
 use Rattle.side.specs.Signals.{Contents, empty}
 use Rattle.side.specs.Meaning.{Within, PartsWithin, bears, reason_number}
+use Rattle.side.proofs.Limited as limited
 use Rattle.carried.specs.Carried.{progress_octets, cause_octets}
 use Rattle.carried.specs.Messages.{numbered}
 use Rattle.carried.proofs.Served.{Served}
 
 -- no parts are within the limits
 pub no_parts : PartsWithin []
-no_parts = record { calling = []; called = []; low = []; high = []; user = []; are = refl; total = lit≤ tt; few = lit≤ tt }
+no_parts = limited.none_within
 
 -- contents of which nothing is asked but their parts
 pub plain : (k : Kind) (c : Contents) → PartsWithin c.parts → (bears k ≡ false → c.parts ≡ []) → (k ≡ Setup → ⊥) → (k ≡ Progress → ⊥) → (k ≡ Clear → ⊥) → Within k c
-plain k c p b s g t = record {
-  parts = p;
-  bare = b;
-  bearer = λ e. absurd (s e);
-  number = λ e. absurd (s e);
-  noted = λ e. absurd (g e);
-  cause = λ e. absurd (t e);
-}
+plain = limited.plain
 
 pub quiet_within : Within Quiet empty
 quiet_within = plain Quiet empty no_parts (λ _. refl) (λ z. grind arith) (λ z. grind arith) (λ z. grind arith)

@@ -2,17 +2,19 @@
 //! access transport holds on a trunk.
 #![tactic(auto)]
 
-ghost use Rattle.std.specs.Prelude.{◌≡◌, ℕ, ◌+◌, cond, length, Some, None, MatchResult};
+ghost use Rattle.std.specs.Prelude.{◌≡◌, ℕ, ◌+◌, ◌≤◌, cond, length, Some, None, MatchResult};
 ghost use Rattle.std.specs.Option as Options;
 ghost use Rattle.entries.specs.Codings.{dss1};
 ghost use Rattle.entries.specs.Entries.{found};
+ghost use Rattle.held.specs.Held.{octets_of};
 ghost use Rattle.side.specs.Contents as side;
 ghost use Rattle.side.specs.Signals as signals;
 ghost use Rattle.side.specs.Contents.{came};
-ghost use Rattle.carried.specs.Carried.{five_in, parts_of, fault_of, progress_in, sooner, first_of, earlier, both, parts_bad_at};
+ghost use Rattle.carried.specs.Carried.{five_in, parts_of, fault_of, progress_in, sooner, first_of, earlier, both, parts_bad_at, progress_octets, cause_octets};
 
 use elements::Dss1;
-use side::contents::Progress;
+use held::Held;
+use side::contents::{Cause, Progress};
 use side::kinds::{PartsFault, Refusal};
 use side::parts::Parts;
 
@@ -28,6 +30,9 @@ pub const LOW: u8 = 0x7C;
 pub const HIGH: u8 = 0x7D;
 /// The tag of user-user.
 pub const USER_USER: u8 = 0x7E;
+
+/// Bit 8 of an octet after which its group does not go on.
+const LAST: u8 = 0x80;
 
 /// An octet that stands for nothing in its code: for no type of message, or for no event.
 #[derive(Clone, Copy, PartialEq, Eq, Debug)]
@@ -53,6 +58,24 @@ pub fn parts(list: &[u8], user: Option<&[u8]>) -> Result<Parts, PartsFault>
     )
 }
 
+/// Progress as it is written, if there is one.
+pub fn progress_octets(progress: Option<Progress>) -> Held<2>
+    ensures { octets_of result ≡ progress_octets (Options.option_map signals.progress_of progress) }
+{
+    match progress {
+        Some(progress) => Held::of(&[progress.location, progress.description]).unwrap(),
+        None => Held::none(),
+    }
+}
+
+/// A cause as it is written: location and value, each the last octet of its group.
+pub fn cause_octets(cause: Cause) -> Held<2>
+    ensures { octets_of result ≡ cause_octets (Some (signals.cause_of cause)) }
+{
+    Held::of(&[LAST + cause.location(), LAST + cause.value()]).unwrap()
+}
+
+// Over places alone; refusals are chosen by `earlier`.
 /// Of two places the smaller.
 pub fn sooner(a: Option<usize>, b: Option<usize>) -> Option<usize>
     ensures { result ≡ sooner a b }

@@ -16,11 +16,12 @@ use Rattle.side.specs.declared.kinds.Layer.TheVariants.{List as InList}
 use Rattle.side.specs.declared.kinds.Refusal.{Refusal}
 use Rattle.side.specs.Signals.{Contents, Heard, empty, noted, described}
 use Rattle.side.specs.Meaning.{Within, bears}
+use Rattle.side.proofs.Limited.{none_within, plain}
 use Rattle.carried.specs.Carried.{fault_of}
 use Rattle.carried.proofs.Numbers.{text_of_number}
 use Rattle.carried.proofs.PartLaws.{sooner_none, bad_none, parts_bad_none, fault_none}
 use Rattle.carried.proofs.Served.{bearer_good}
-use Rattle.carried.proofs.Withins.{no_parts, plain, quiet_within, setup_fits, progress_fits, clear_fits, cause_in_range, numbered_is, Between, between_is}
+use Rattle.carried.proofs.Withins.{quiet_within, setup_fits, progress_fits, clear_fits, cause_in_range, numbered_is, Between, between_is}
 use Rattle.dss1_meaning.specs.declared.types.MessageType.{MessageType}
 use Rattle.dss1_meaning.specs.declared.types.MessageType.TheVariants as type
 use Rattle.dss1_meaning.specs.Dss1 as table
@@ -48,7 +49,7 @@ pub party_within : (k : Kind) (b : Body) → fault_of b.parts ≡ None → (bear
 party_within k b e h s t = plain k (party_says b) (fault_none b.parts e) (λ z. absurd (both_ways (bears k) z h)) s (λ z. absurd (both_ways (bears k) (ap bears z) h)) t
 
 pub complete_within : (p : Option (ℕ × ℕ)) → Within Complete (progress_says p)
-complete_within p = plain Complete (progress_says p) no_parts (λ _. refl) (λ z. grind arith) (λ z. grind arith) (λ z. grind arith)
+complete_within p = plain Complete (progress_says p) none_within (λ _. refl) (λ z. grind arith) (λ z. grind arith) (λ z. grind arith)
 
 pub progress_within : (p : ℕ × ℕ) → Within Progress (progress_says (Some p))
 progress_within p = progress_fits (progress_says (Some p)) p refl refl

@@ -12,24 +12,25 @@ use Rattle.values.specs.Bearers.{bearer_in}
 use Rattle.values.specs.Numbers.{code_of, type_of}
 use Rattle.digits.specs.Dialling.{dialled, Number}
 use Rattle.carried.proofs.Served.{told_bearer_served}
+use Rattle.digits.proofs.Steps.{reads_itself}
 use Rattle.side.specs.declared.kinds.Kind.{Kind}
 use Rattle.side.specs.declared.kinds.Kind.TheVariants.{Setup, Complete, Progress, Alerting, Answer, Quiet, Clear, Down}
 use Rattle.side.specs.declared.kinds.Phase.{Phase}
 use Rattle.side.specs.declared.kinds.Reason.TheVariants.{Malformed, NoSuchLeg, Missing}
 use Rattle.side.specs.declared.kinds.Refusal.{Refusal}
+use Rattle.side.proofs.Limited.{none_within}
 use Rattle.side.specs.Table.{told_in, between}
 use Rattle.side.specs.Contents.{Part}
 use Rattle.side.specs.Signals.{Contents, empty, noted, described}
 use Rattle.side.specs.Meaning.{Within, PartsWithin, Far}
 use Rattle.carried.specs.Carried.{Five, five_at, parts_of, fault_of, part_at, progress_octets, cause_octets, bad_at, parts_bad_at, sooner, told_bearer}
-use Rattle.carried.proofs.Numbers.{number_of_text}
 use Rattle.carried.proofs.PartLaws.{within_parts, within_weights, within_fault, part_short}
 use Rattle.dss1_meaning.specs.declared.types.MessageType.{MessageType}
 use Rattle.dss1_meaning.specs.declared.types.MessageType.TheVariants as type
 use Rattle.dss1_meaning.specs.Dss1.{user, Body, body_in, Said, headed, type_in, type_octet, begins, named, reference_to, callable, numbered, number_in, number_octets, setup_says, party_says, progress_says, clear_says, judged, parts_bad, setup_bad, there, setup_read, proceeding_read, progress_read, body_read, heard_as, list_read, type_read, reads_at, head, table, or_noted, told_elements, tells, far_of, far}
 use Rattle.dss1_meaning.specs.Dss1 as system
 use Rattle.dss1_meaning.proofs.Legs.{named_in_call, named_to_begin}
-use Rattle.carried.proofs.Withins.{no_parts, progress_short, cause_short}
+use Rattle.carried.proofs.Withins.{progress_short, cause_short}
 use Rattle.dss1_meaning.proofs.Hearing.{says}
 
 -- a table that is written whole: its tags ascend, and with a head it fits 255 octets
@@ -116,8 +117,8 @@ told_fits Setup c w =
     let pr : List ℕ = progress_octets (or_noted c.progress c.isdn (0x82, 0x83)) in
     table_fits (told_bearer c.bearer) [] pr (number_octets c.number) c.parts w.parts (told_bearer_served c.bearer).1 (lit≤ tt) (progress_short (or_noted c.progress c.isdn (0x82, 0x83)))
     (number_short c.number n.0 n.1.0 n.1.1 n.1.2)
-told_fits Complete c w = table_fits [] [] (progress_octets c.progress) [] [] no_parts (lit≤ tt) (lit≤ tt) (progress_short c.progress) (lit≤ tt)
-told_fits Progress c w = table_fits [] [] (progress_octets c.progress) [] [] no_parts (lit≤ tt) (lit≤ tt) (progress_short c.progress) (lit≤ tt)
+told_fits Complete c w = table_fits [] [] (progress_octets c.progress) [] [] none_within (lit≤ tt) (lit≤ tt) (progress_short c.progress) (lit≤ tt)
+told_fits Progress c w = table_fits [] [] (progress_octets c.progress) [] [] none_within (lit≤ tt) (lit≤ tt) (progress_short c.progress) (lit≤ tt)
 told_fits Alerting c w =
     let p : Option (ℕ × ℕ) = or_noted c.progress c.isdn (0x82, 0x82) in
     table_fits [] [] (progress_octets p) [] c.parts w.parts (lit≤ tt) (lit≤ tt) (progress_short p) (lit≤ tt)
@@ -204,7 +205,7 @@ type_of_code National = refl
 type_of_code Subscriber = refl
 
 number_in_back : (t : NumberType) (d : List ℕ) → Number d → number_in (number_octets (Some (t, d))) ≡ Some (t, d)
-number_in_back t d h = ap (λ o. numbered o (dialled d)) (type_of_code t) ∙ ap (numbered (Some t)) (number_of_text d h)
+number_in_back t d h = ap (λ o. numbered o (dialled d)) (type_of_code t) ∙ ap (numbered (Some t)) (reads_itself d h)
 
 no_bad : (a b c : Option ℕ) → a ≡ None → b ≡ None → c ≡ None → sooner a (sooner b c) ≡ None
 no_bad a b c i j k = ap (λ x. sooner x (sooner b c)) i ∙ ap (λ x. sooner x c) j ∙ k

@@ -27,7 +27,7 @@ pub(crate) const HEAD: usize = 4;
 
 /// The list of a message's elements.
 #[derive(Clone, Copy)]
-pub(crate) struct Elements<'a> {
+pub(crate) struct Body<'a> {
     pub(crate) octets: &'a [u8],
     ghost short: { length octets.now ≤ 251 },
 }
@@ -44,7 +44,8 @@ fn called_number(contents: &[u8]) -> Option<Number>
     Some(Number { kind, digits })
 }
 
-impl<'a> Elements<'a> {
+impl<'a> Body<'a> {
+    // Empty for what is not there: an element without contents counts as not there either.
     /// What an element holds; one that is not there holds nothing.
     pub(crate) fn found(self, tag: u8) -> &'a [u8]
         ensures { result.now ≡ entries.found dss1 tag self.entry.octets.now }
@@ -63,11 +64,7 @@ impl<'a> Elements<'a> {
     fn or_refuse<T: Copy>(self, value: Option<T>, tag: u8) -> Result<T, Refusal>
         ensures { result ≡ ok_or value (refusal BadValue (tag_place dss1 4 tag self.entry.octets.now)) }
     {
-        // By hand: a closure that holds the list needs clauses of its own, longer than this.
-        match value {
-            Some(value) => Ok(value),
-            None => Err(System::Dss1.refuses(Reason::BadValue, self.place_of(tag))),
-        }
+        value.ok_or(System::Dss1.refuses(Reason::BadValue, self.place_of(tag)))
     }
 
     /// Whether the list is whole: an element that breaks off is refused at its tag.
@@ -105,14 +102,10 @@ impl<'a> Elements<'a> {
         ensures bad { refused result ≡ option_map (refusal BadValue) (parts_bad (body_in self.entry.octets.now)) }
         ensures are { IfOk result (λ p. side.parts_of p ≡ parts_of (body_in self.entry.octets.now).parts) }
     {
-        // By hand, as above.
-        match carried::parts(self.octets, Some(self.found(USER_USER))) {
-            Ok(parts) => Ok(parts),
-            Err(fault) => Err(System::Dss1.refuses(
-                Reason::BadValue,
-                carried::refused_at(fault, self.place_of(USER_USER)),
-            )),
-        }
+        let place = self.place_of(USER_USER);
+        carried::parts(self.octets, Some(self.found(USER_USER))).map_err(|fault| {
+            System::Dss1.refuses(Reason::BadValue, carried::refused_at(fault, place))
+        })
     }
 
     /// The progress.

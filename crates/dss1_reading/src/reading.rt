@@ -4,7 +4,7 @@ ghost use Rattle.side.specs.Signals.{noted, read_as};
 ghost use Rattle.carried.specs.Messages.{signal_as};
 ghost use Rattle.dss1_meaning.specs.Dss1.{headed, body_in, setup_read, proceeding_read, progress_read, body_read, reads};
 
-use crate::list::{Elements, HEAD};
+use crate::list::{Body, HEAD};
 use crate::octets::{BEARER, NUMBER, PROTOCOL, REFERENCE_LENGTH};
 use crate::reference::leg_of;
 use carried::both;
@@ -19,6 +19,13 @@ const TYPE: usize = 3;
 /// The longest message.
 const LONGEST: usize = 255;
 
+/// Progress: the calling end is no ISDN.
+const ORIGIN_NO_ISDN: u8 = 3;
+/// Progress: the call has come back to an ISDN.
+const BACK_IN_ISDN: u8 = 4;
+/// Progress: what is going on can be heard.
+const IN_BAND: u8 = 8;
+
 /// Whether a message has a head.
 fn has_head(message: &[u8]) -> bool
     ensures { result ≡ headed message.now }
@@ -26,7 +33,7 @@ fn has_head(message: &[u8]) -> bool
     (HEAD..=LONGEST).contains(&message.len()) && message.starts_with(&[PROTOCOL, REFERENCE_LENGTH])
 }
 
-impl Elements<'_> {
+impl Body<'_> {
     /// What a setup says: it needs a bearer and a number.
     fn setup(self) -> Result<Signal, Refusal>
         ensures { signal_as result ≡ setup_read (body_in self.entry.octets.now) }
@@ -52,7 +59,7 @@ impl Elements<'_> {
             return Ok(Signal::Complete(None, true));
         };
         match progress.described() {
-            3 | 4 | 8 => Ok(Signal::Complete(Some(progress), true)),
+            ORIGIN_NO_ISDN | BACK_IN_ISDN | IN_BAND => Ok(Signal::Complete(Some(progress), true)),
             _ => Ok(Signal::Progress(progress, true)),
         }
     }
@@ -61,11 +68,11 @@ impl Elements<'_> {
     fn in_progress(self) -> Result<Signal, Refusal>
         ensures { signal_as result ≡ progress_read (noted (body_in self.entry.octets.now).progress) }
     {
-        let Some(progress) = self.progress() else {
-            return Err(System::Dss1.refuses(Reason::Missing, 0));
-        };
+        let progress = self
+            .progress()
+            .ok_or(System::Dss1.refuses(Reason::Missing, 0))?;
         match progress.described() {
-            3 | 8 => Ok(Signal::Quiet),
+            ORIGIN_NO_ISDN | IN_BAND => Ok(Signal::Quiet),
             _ => Ok(Signal::Progress(progress, true)),
         }
     }
@@ -95,17 +102,19 @@ pub fn read(legs: usize, message: &[u8]) -> Result<Reading, Refusal>
     if !has_head(message) {
         return Err(System::Dss1.refuses(Reason::Malformed, 0));
     }
-    let Ok(message_type) = MessageType::try_from(message[TYPE]) else {
-        return Err(System::Dss1.refuses(Reason::UnknownType, TYPE));
-    };
-    let Some(leg) = leg_of(message[REFERENCE], message_type, legs) else {
-        return Err(System::Dss1.refuses(Reason::NoSuchLeg, REFERENCE));
-    };
-    let elements = Elements {
+    let message_type = MessageType::try_from(message[TYPE]).map_err(|_| System::Dss1.refuses(
+        Reason::UnknownType,
+        TYPE,
+    ))?;
+    let leg = leg_of(message[REFERENCE], message_type, legs).ok_or(System::Dss1.refuses(
+        Reason::NoSuchLeg,
+        REFERENCE,
+    ))?;
+    let body = Body {
         octets: &message[HEAD..],
     };
-    elements.check()?;
-    let signal = elements.signal(message_type)?;
+    body.check()?;
+    let signal = body.signal(message_type)?;
     Ok(Reading {
         leg,
         heard: message[TYPE],

@@ -8,7 +8,8 @@ ghost use Rattle.dss1_reading.specs.Reads.{number_of};
 ghost use Rattle.dss1.specs.Fields.{table_of};
 
 use super::Fields;
-use super::making::{bearer_octets, cause_octets, number_octets, progress_octets};
+use super::making::{bearer_octets, number_octets};
+use carried::{cause_octets, progress_octets};
 use held::Held;
 use side::contents::{Cause, Progress, Setup};
 use side::parts::Parts;

@@ -1,13 +1,11 @@
 ghost use Rattle.std.specs.Prelude.{◌≡◌, ℕ, ◌≤◌, length, Some};
-ghost use Rattle.std.specs.Option.{option_map};
 ghost use Rattle.held.specs.Held.{octets_of};
-ghost use Rattle.carried.specs.Carried.{progress_octets, cause_octets};
-ghost use Rattle.side.specs.Signals.{bearer_of, progress_of, cause_of};
+ghost use Rattle.side.specs.Signals.{bearer_of};
 ghost use Rattle.dss1_meaning.specs.Dss1.{number_octets};
 ghost use Rattle.dss1_reading.specs.Reads.{number_of};
 
 use held::Held;
-use side::contents::{Bearer, Cause, Number, Progress};
+use side::contents::{Bearer, Number};
 
 /// Bit 8 of an octet after which its group does not go on.
 const LAST: u8 = 0x80;
@@ -19,23 +17,6 @@ pub(crate) fn bearer_octets(bearer: &Bearer) -> Held<11>
     ensures { octets_of result ≡ bearer_of bearer.now }
 {
     Held::of(bearer.as_octets()).unwrap()
-}
-
-/// A cause: location and value, each the last octet of its group.
-pub(crate) fn cause_octets(cause: Cause) -> Held<2>
-    ensures { octets_of result ≡ cause_octets (Some (cause_of cause)) }
-{
-    Held::of(&[LAST + cause.location(), LAST + cause.value()]).unwrap()
-}
-
-/// A progress indicator, if there is one.
-pub(crate) fn progress_octets(progress: Option<Progress>) -> Held<2>
-    ensures { octets_of result ≡ progress_octets (option_map progress_of progress) }
-{
-    match progress {
-        Some(progress) => Held::of(&[progress.location, progress.description]).unwrap(),
-        None => Held::none(),
-    }
 }
 
 /// A called number: its type and the numbering plan, then its digits.

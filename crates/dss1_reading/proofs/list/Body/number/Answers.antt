@@ -5,7 +5,7 @@ use Rattle.carried.specs.Carried.{tag_place}
 use Rattle.carried.specs.Messages.{number_of}
 use Rattle.carried.proofs.Refusals.{some_or_refused, read_is}
 use Rattle.dss1_meaning.specs.Dss1.{refusal, number_in}
-use Rattle.dss1_reading.proofs.list.Elements.number.Goals as goal
+use Rattle.dss1_reading.proofs.list.Body.number.Goals as goal
 
 pub returns-clause-bad : goal.returns-clause-bad
 returns-clause-bad c =

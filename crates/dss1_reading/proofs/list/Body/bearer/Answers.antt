@@ -6,7 +6,7 @@ use Rattle.carried.specs.Carried.{tag_place}
 use Rattle.carried.proofs.Refusals.{some_or_refused}
 use Rattle.dss1_meaning.specs.Dss1.{refusal}
 use Rattle.dss1_reading.proofs.Readings.{bearer_read}
-use Rattle.dss1_reading.proofs.list.Elements.bearer.Goals as goal
+use Rattle.dss1_reading.proofs.list.Body.bearer.Goals as goal
 
 pub returns-clause-bad : goal.returns-clause-bad
 returns-clause-bad c =

@@ -1,7 +1,7 @@
 use Rattle.std.proofs.lemmas.Result.{err_from_is_err_and}
 use Rattle.dss1_meaning.specs.Dss1.{body_in}
 use Rattle.dss1_reading.proofs.Readings.{filled, setup_refused, setup_said}
-use Rattle.dss1_reading.proofs.list.Elements.setup.Goals as goal
+use Rattle.dss1_reading.proofs.list.Body.setup.Goals as goal
 
 pub returns-in_err-bearer : goal.returns-in_err-bearer
 returns-in_err-bearer c =
