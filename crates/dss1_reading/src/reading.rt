@@ -11,13 +11,12 @@ use carried::both;
 use dss1_meaning::types::MessageType;
 use side::contents::{Reading, Setup, Signal};
 use side::kinds::{Reason, Refusal, System};
+use side::refusing::LONGEST;
 
 /// The place of the reference.
 const REFERENCE: usize = 2;
 /// The place of the type.
 const TYPE: usize = 3;
-/// The longest message.
-const LONGEST: usize = 255;
 
 /// Progress: the calling end is no ISDN.
 const ORIGIN_NO_ISDN: u8 = 3;
