@@ -10,6 +10,7 @@ use Rattle.side.specs.Contents as side
 use Rattle.side.specs.Contents.{Part, part, five, calling_of, called_of, low_of, high_of, user_of}
 use Rattle.side.specs.Signals.{noted}
 use Rattle.side.specs.Meaning.{PartsWithin, keep}
+use Rattle.side.proofs.Keeps.{keep_append}
 use Rattle.values.specs.Causes.{cause_in}
 use Rattle.carried.specs.Carried.{Five, five_at, parts_of, fault_of, is_part, part_at, progress_octets, cause_octets, bad_at, parts_bad_at, sooner}
 
@@ -103,15 +104,6 @@ part_high p = at_high (calling_of p) (called_of p) (low_of p) (high_of p) (user_
 
 pub part_user : (p : Parts) → part_at 0x7E (side.parts_of p) ≡ user_of p
 part_user p = at_user (calling_of p) (called_of p) (low_of p) (high_of p) (user_of p)
-
--- every part is kept
-keep_append : (f : Part → Bool) (xs ys : List Part) → keep f (xs ++ ys) ≡ keep f xs ++ keep f ys
-keep_append f [] ys = refl
-keep_append f (x ∷ xs) ys = go (keep_append f xs ys) (f x)
-  where
-    go : keep f (xs ++ ys) ≡ keep f xs ++ keep f ys → (b : Bool) → cond b (x ∷ keep f (xs ++ ys)) (keep f (xs ++ ys)) ≡ cond b (x ∷ keep f xs) (keep f xs) ++ keep f ys
-    go e true = ap (λ (r : List Part). x ∷ r) e
-    go e false = e
 
 abbrev test : Part → Bool
 test q = is_part q.tag

@@ -1,5 +1,5 @@
 -- What the readers of a message make of its parts. Assumes nothing.
-use Rattle.std.proofs.Common.{◌≡◌, ℕ, ◌-◌, ◌<◌, Bool, true, false, cond, ◌&&◌, eqb, List, length, get_or, take, drop, is_some, is_ok, IfOk, MatchResult, MatchOption, Some, None, Ok, Err, Option, Result, sym, refl, ap, subst, ◌∙◌, arith}
+use Rattle.std.proofs.Common.{◌≡◌, ℕ, ◌-◌, ◌<◌, true, false, ◌&&◌, eqb, List, length, get_or, take, drop, is_some, is_ok, IfOk, MatchResult, MatchOption, Some, None, Ok, Err, Option, Result, sym, refl, ap, subst, ◌∙◌, arith}
 use Rattle.std.proofs.lemmas.List.{take_rest}
 use Rattle.std.proofs.lemmas.Bool.{cond-true, lt-ltb, eqb-false}
 use Rattle.std.proofs.lemmas.Result.{IfOk-at_ok}
@@ -84,10 +84,6 @@ pub type_found : (o : Option MessageType) (t : MessageType) (u : UnknownOctet) (
     r ≡ ok_or o u → m ≡ Ok t → is_ok m ≡ is_ok r → MatchResult r (λ x. m ≡ Ok x) P → Some t ≡ o
 type_found None t u r m P e f v h = let z : true ≡ false = ap is_ok (sym f) ∙ v ∙ ap is_ok e in absurd (grind arith)
 type_found (Some s) t u r m P e f v h = let k : m ≡ Ok s = subst (λ r. MatchResult r (λ x. m ≡ Ok x) P) e h in grind arith
-
--- what a leg that was looked for says of the reference
-pub leg_found : (b : Bool) (l x : ℕ) → Some l ≡ cond b (Some x) None → (b ≡ true) × (l ≡ x)
-leg_found b l x e = (grind arith, grind arith)
 
 -- a message whose head and type are read
 module _ (n : ℕ) (o : List ℕ) (t : MessageType) (h : true ≡ headed o) (e : Some t ≡ type_in (get_or o 3 0)) where

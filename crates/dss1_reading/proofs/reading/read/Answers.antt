@@ -1,7 +1,8 @@
 use Rattle.std.proofs.Common.{get_or, Ok, sym, ap, ◌∙◌}
 use Rattle.std.specs.Option.{option_map}
 use Rattle.side.specs.Signals.{kind_of, contents_of}
-use Rattle.dss1_reading.proofs.Readings.{type_found, leg_found, body_read_is}
+use Rattle.side.proofs.Legs.{leg_found}
+use Rattle.dss1_reading.proofs.Readings.{type_found, body_read_is}
 use Rattle.dss1_reading.proofs.reading.read.Goals as goal
 
 pub returns : goal.returns
