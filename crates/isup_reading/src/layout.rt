@@ -14,6 +14,7 @@ use elements::{Dss1, Isup as OptionalCoding};
 use isup_meaning::types::MessageType;
 use side::kinds::{Layer, Reason, Refusal, System};
 
+// Octets, and no Option of them: contents that are empty count as not there, so an Option would say it twice.
 /// What stands under a tag of the optional list, and the tag's place; what is not there is empty.
 #[derive(Clone, Copy)]
 pub(crate) struct Tagged<'a> {
@@ -21,6 +22,7 @@ pub(crate) struct Tagged<'a> {
     pub(crate) place: usize,
 }
 
+// The field is octets, and no Option of them, for the same reason as the contents under a tag.
 /// A message and what its pointers reach; what is not there is empty.
 #[derive(Clone, Copy)]
 pub(crate) struct Body<'a> {
@@ -60,6 +62,8 @@ impl<'a> Tagged<'a> {
 }
 
 impl<'a> Body<'a> {
+    // The type is a parameter, and no part of a message: a message is there before its type is known, and what is
+    // read at fixed places needs none.
     /// What the pointers of a message of a type reach.
     fn of(message: Message<'a>, kind: MessageType) -> Body<'a>
         ensures { body_of result ≡ body_in message.entry.octets.now kind }

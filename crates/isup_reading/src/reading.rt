@@ -83,7 +83,8 @@ impl Body<'_> {
         ensures bad { refused result ≡ bad_value (bad_at (is_some (medium_bearer (slice_index (body_of self.entry).octets 7))) 7) }
         ensures value { IfOk result (λ b. Some (bearer_of b) ≡ medium_bearer (slice_index (body_of self.entry).octets 7)) }
     {
-        medium_bearer(self.message.octet(MEDIUM)).ok_or(System::Isup.refuses(Reason::BadValue, MEDIUM))
+        let refusal = System::Isup.refuses(Reason::BadValue, MEDIUM);
+        medium_bearer(self.message.octet(MEDIUM)).ok_or(refusal)
     }
 
     /// The number is refused at its pointer.
