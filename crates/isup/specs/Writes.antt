@@ -2,11 +2,13 @@
 -- Rests on tables of elements and on the tables of the messages.
 use Rattle.std.specs.Prelude.{◌≡◌, ℕ, ◌+◌, ◌<◌, Bool, ◌&&◌, List, [], ◌∷◌, ◌++◌, length, Result, MatchResult, ◌==◌}
 use Rattle.entries.specs.Entries.{Entry, listed}
+use Rattle.held.specs.Held.{octets_of}
 use Rattle.side.specs.declared.parts.Parts.{Parts}
 use Rattle.side.specs.Contents.{calling_of, called_of, low_of, high_of, user_of}
 use Rattle.side.specs.Steps.{written}
 use Rattle.writer.specs.declared.types.WriteFault.{WriteFault}
 use Rattle.isup_meaning.specs.Writing.{pointer_to, tail}
+use Rattle.isup.specs.declared.fields.Optional.{Optional}
 
 -- access transport: the octets of progress, and the parts but user-user
 abbrev pub access_of : List ℕ → Parts → List Entry
@@ -24,6 +26,10 @@ behind_of p bearer = record { tag = 0x1D; contents = bearer } ∷ record { tag =
 
 abbrev pub optional_of : List ℕ → Parts → List ℕ → List Entry
 optional_of progress p bearer = record { tag = 0x03; contents = listed (access_of progress p) } ∷ behind_of p bearer
+
+-- the optional list of what the code holds
+abbrev pub list_of : Optional → List ℕ
+list_of o = listed (optional_of (octets_of o.progress) o.parts.now o.bearer.now)
 
 -- nothing is said in access transport, or in the whole list
 abbrev pub no_access : List ℕ → Parts → Bool

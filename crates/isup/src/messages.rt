@@ -78,6 +78,7 @@ fn fieldless(
 }
 
 impl Plain {
+    // Each arm hands on its own fixed octets: they differ in number, and an array has one length.
     /// Writes it from the front of a buffer; one of 256 octets holds every message.
     pub(crate) fn write(
         self,

@@ -73,11 +73,9 @@ pub fn take(
         phase: kind.heard_to(cleared_from(before.phase), before.phase),
         seized: seized_by(Seizer::FarEnd, kind, before.seized),
     };
-    match write_reply(reading.leg, reading.heard, reply) {
-        Ok(count) => Ok((after, count)),
-        // The row was asked with the buffer's length, and 256 octets hold every message.
-        Err(_) => unreachable(),
-    }
+    // The row was asked with the buffer's length, and 256 octets hold every message.
+    let count = write_reply(reading.leg, reading.heard, reply).unwrap();
+    Ok((after, count))
 }
 
 /// Whether an address complete message went before.
@@ -160,9 +158,7 @@ pub fn tell(
         phase: kind.told_to(before.phase),
         seized: seized_by(Seizer::We, kind, before.seized),
     };
-    match write_signal(leg, is_completed(before.phase), signal, message) {
-        Ok(count) => Ok((after, count)),
-        // The row was asked with the buffer's length, and 256 octets hold every message.
-        Err(_) => unreachable(),
-    }
+    // The row was asked with the buffer's length, and 256 octets hold every message.
+    let count = write_signal(leg, is_completed(before.phase), signal, message).unwrap();
+    Ok((after, count))
 }

@@ -4,7 +4,7 @@ ghost use Rattle.writer.specs.Written.{Adds};
 ghost use Rattle.held.specs.Held.{octets_of};
 ghost use Rattle.entries.specs.Entries.{entry_octets, listed};
 ghost use Rattle.isup_meaning.specs.Writing.{pointer_to, tail};
-ghost use Rattle.isup.specs.Writes.{access_of, optional_of, no_access, no_list, message_of, Sent};
+ghost use Rattle.isup.specs.Writes.{access_of, list_of, no_access, no_list, message_of, Sent};
 
 use crate::fields::Optional;
 use carried::{CALLED, CALLING, HIGH, LOW, PROGRESS};
@@ -62,7 +62,7 @@ impl Optional<'_> {
 
     /// The list behind what is written, and its end.
     fn put_list(&self, front: Open, out: &mut [u8]) -> Result<Closed, WriteFault>
-        ensures { MatchResult result (λ closed. Adds (listed (optional_of (octets_of self.now.progress) self.now.parts.now self.now.bearer.now) ++ (0 ∷ [])) front.at out.old closed.length out.new) (λ _. length out.old < front.at + 230) }
+        ensures { MatchResult result (λ closed. Adds (list_of self.now ++ (0 ∷ [])) front.at out.old closed.length out.new) (λ _. length out.old < front.at + 230) }
     {
         let listing = self.put_access(front, out)?;
         let items = [
@@ -74,14 +74,14 @@ impl Optional<'_> {
 
     /// The octet of the pointer to the list: 00 where it says nothing.
     fn pointer(&self, distance: u8) -> u8
-        ensures { result ≡ pointer_to distance (listed (optional_of (octets_of self.now.progress) self.now.parts.now self.now.bearer.now)) }
+        ensures { result ≡ pointer_to distance (list_of self.now) }
     {
         if self.is_empty() { 0 } else { distance }
     }
 
     /// The list, where it says something, and the end of the message.
     fn close(&self, front: Open, out: &mut [u8]) -> Result<Closed, WriteFault>
-        ensures { MatchResult result (λ closed. Adds (tail (listed (optional_of (octets_of self.now.progress) self.now.parts.now self.now.bearer.now))) front.at out.old closed.length out.new) (λ _. length out.old < front.at + 230) }
+        ensures { MatchResult result (λ closed. Adds (tail (list_of self.now)) front.at out.old closed.length out.new) (λ _. length out.old < front.at + 230) }
     {
         if self.is_empty() {
             return Ok(front.close());
@@ -98,7 +98,7 @@ pub(crate) fn write(
     optional: &Optional<'_>,
 ) -> Result<usize, WriteFault>
     requires { length fixed.now ≤ 9 }
-    ensures { Sent (message_of fixed.now (octets_of between) (listed (optional_of (octets_of optional.now.progress) optional.now.parts.now optional.now.bearer.now))) out.old out.new result }
+    ensures { Sent (message_of fixed.now (octets_of between) (list_of optional.now)) out.old out.new result }
 {
     let between = between.as_octets();
     let distance = 1 + between.len() as u8;

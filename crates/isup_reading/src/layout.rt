@@ -3,17 +3,18 @@ ghost use Rattle.std.specs.Prelude.{◌≡◌, ℕ, ◌<◌, length, MatchResult
 ghost use Rattle.isup_meaning.specs.Reading.{refusal, nested_fault, body_in, broken, whole_read, layout_read};
 ghost use Rattle.entries.specs.Codings.{dss1, isup};
 ghost use Rattle.entries.specs.Entries.{found};
-ghost use Rattle.carried.specs.Carried.{tag_place};
+ghost use Rattle.carried.specs.Carried.{refused, tag_place};
 ghost use Rattle.elements.specs.Elements.{checked};
 ghost use Rattle.isup_reading.specs.Reads.{body_of};
 
 use crate::codes::{ACCESS, BEARER, USER};
 use crate::message::Message;
-use carried::earlier;
+use carried::both;
 use elements::{Dss1, Isup as OptionalCoding};
 use isup_meaning::types::MessageType;
 use side::kinds::{Layer, Reason, Refusal, System};
 
+// Octets, and no Option of them: contents that are empty count as not there, so an Option would say it twice.
 /// What stands under a tag of the optional list, and the tag's place; what is not there is empty.
 #[derive(Clone, Copy)]
 pub(crate) struct Tagged<'a> {
@@ -21,6 +22,7 @@ pub(crate) struct Tagged<'a> {
     pub(crate) place: usize,
 }
 
+// The field is octets, and no Option of them, for the same reason as the contents under a tag.
 /// A message and what its pointers reach; what is not there is empty.
 #[derive(Clone, Copy)]
 pub(crate) struct Body<'a> {
@@ -46,20 +48,22 @@ impl<'a> Tagged<'a> {
     }
 
     /// What is broken in a list of DSS 1 elements under a tag is refused at the tag.
-    fn nested_fault(self) -> Option<Refusal>
-        ensures { result ≡ nested_fault self.entry.place (checked dss1 self.entry.contents.now) }
+    fn check_nested(self) -> Result<(), Refusal>
+        ensures { refused result ≡ nested_fault self.entry.place (checked dss1 self.entry.contents.now) }
     {
-        let malformed = Refusal {
-            layer: Layer::NestedList,
-            ..System::Isup.refuses(Reason::Malformed, self.place)
-        };
-        elements::check::<Dss1>(self.contents)
-            .is_err()
-            .then_some(malformed)
+        match elements::check::<Dss1>(self.contents) {
+            Ok(_) => Ok(()),
+            Err(_) => Err(Refusal {
+                layer: Layer::NestedList,
+                ..System::Isup.refuses(Reason::Malformed, self.place)
+            }),
+        }
     }
 }
 
 impl<'a> Body<'a> {
+    // The type is a parameter, and no part of a message: a message is there before its type is known, and what is
+    // read at fixed places needs none.
     /// What the pointers of a message of a type reach.
     fn of(message: Message<'a>, kind: MessageType) -> Body<'a>
         ensures { body_of result ≡ body_in message.entry.octets.now kind }
@@ -76,18 +80,18 @@ impl<'a> Body<'a> {
         }
     }
 
-    // An Option, as all that is asked for here: of several faults the one at the smallest place is told.
-    /// Everything that is broken, the smallest place first.
-    fn broken(self, kind: MessageType) -> Option<Refusal>
-        ensures { result ≡ broken (body_of self.entry).octets kind (body_of self.entry) }
+    /// Of everything that is broken, what stands at the smallest place is refused.
+    fn check(self, kind: MessageType) -> Result<(), Refusal>
+        ensures { refused result ≡ broken (body_of self.entry).octets kind (body_of self.entry) }
     {
         let field = if kind.has_field() {
-            self.message.field_pointer(kind).field_fault()
+            self.message.field_pointer(kind).check_field()
         } else {
-            None
+            Ok(())
         };
-        let optional = self.message.list_pointer(kind).list_fault();
-        earlier(field, earlier(optional, self.access.nested_fault()))
+        let optional = self.message.list_pointer(kind).check_list();
+        both(field, both(optional, self.access.check_nested()))?;
+        Ok(())
     }
 
     /// The body of a message of a type: its fixed octets are there, and nothing in it is broken.
@@ -98,10 +102,7 @@ impl<'a> Body<'a> {
             return Err(System::Isup.refuses(Reason::Malformed, 0));
         }
         let body = Body::of(message, kind);
-        // Not `map_or(Ok(body), Err)`, which reads as if a refusal were the rule.
-        match body.broken(kind) {
-            Some(refusal) => Err(refusal),
-            None => Ok(body),
-        }
+        body.check(kind)?;
+        Ok(body)
     }
 }

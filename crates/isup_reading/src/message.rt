@@ -124,6 +124,7 @@ impl<'a> Message<'a> {
 
 impl<'a> Pointer<'a> {
     ghost use Rattle.std.specs.Prelude.{slice_index};
+    ghost use Rattle.carried.specs.Carried.{refused};
     ghost use Rattle.isup_meaning.specs.Reading.{pointed, field_in, list_in, field_fault, optional_fault};
 
     /// Where it reaches.
@@ -157,39 +158,40 @@ impl<'a> Pointer<'a> {
         self.message.rest(self.reached())
     }
 
-    /// It is not there, or the field that it reaches is not all there.
-    pub(crate) fn field_fault(self) -> Option<Refusal>
-        ensures { result ≡ field_fault self.entry.message.octets.now self.entry.place }
+    /// Its field is not whole if the pointer is not there, or if not all is there of the field that it reaches.
+    pub(crate) fn check_field(self) -> Result<(), Refusal>
+        ensures { refused result ≡ field_fault self.entry.message.octets.now self.entry.place }
     {
         let malformed = System::Isup.refuses(Reason::Malformed, self.place);
-        let Some(distance) = self.message.octets.get(self.place) else {
-            return Some(malformed);
-        };
+        let distance = self.message.octets.get(self.place).ok_or(malformed)?;
         if *distance == 0 {
-            return None;
+            return Ok(());
         }
         let place = self.reached();
         let end = place + 1 + usize::from(self.message.octet(place));
-        (end > self.message.octets.len()).then_some(malformed)
+        if end > self.message.octets.len() {
+            return Err(malformed);
+        }
+        Ok(())
     }
 
-    /// It is not there, an element of the list breaks off, which is refused at its tag, or the end tag is missing,
-    /// which is refused at the pointer.
-    pub(crate) fn list_fault(self) -> Option<Refusal>
-        ensures { result ≡ optional_fault self.entry.message.octets.now self.entry.place }
+    /// Its list is not whole if the pointer is not there, if an element breaks off, which is refused at its tag, or if
+    /// the end tag is missing, which is refused at the pointer.
+    pub(crate) fn check_list(self) -> Result<(), Refusal>
+        ensures { refused result ≡ optional_fault self.entry.message.octets.now self.entry.place }
     {
-        let Some(distance) = self.message.octets.get(self.place) else {
-            return Some(System::Isup.refuses(Reason::Malformed, self.place));
-        };
+        let malformed = System::Isup.refuses(Reason::Malformed, self.place);
+        let distance = self.message.octets.get(self.place).ok_or(malformed)?;
         if *distance == 0 {
-            return None;
+            return Ok(());
         }
         let start = self.reached();
-        let place = match elements::check::<OptionalCoding>(self.message.rest(start)).err()? {
-            ListFault::BreaksOff(place) => start + place,
-            ListFault::NoEnd(_) => self.place,
+        let place = match elements::check::<OptionalCoding>(self.message.rest(start)) {
+            Ok(_) => return Ok(()),
+            Err(ListFault::BreaksOff(place)) => start + place,
+            Err(ListFault::NoEnd(_)) => self.place,
         };
-        Some(Refusal {
+        Err(Refusal {
             layer: Layer::List,
             ..System::Isup.refuses(Reason::Malformed, place)
         })

@@ -57,14 +57,6 @@ fn medium_bearer(medium: u8) -> Option<Bearer>
     }
 }
 
-/// The medium is refused at its place.
-fn medium(body: Body<'_>) -> Result<Bearer, Refusal>
-    ensures bad { refused result ≡ bad_value (bad_at (is_some (medium_bearer (slice_index (body_of body.entry).octets 7))) 7) }
-    ensures value { IfOk result (λ b. Some (bearer_of b) ≡ medium_bearer (slice_index (body_of body.entry).octets 7)) }
-{
-    medium_bearer(body.message.octet(MEDIUM)).ok_or(System::Isup.refuses(Reason::BadValue, MEDIUM))
-}
-
 /// A called number: nature of address, with bit 8 set for an odd count of signals; an octet that is ignored; the
 /// signals.
 fn called_number(field: &[u8]) -> Option<Number>
@@ -78,103 +70,6 @@ fn called_number(field: &[u8]) -> Option<Number>
     Some(Number { kind, digits })
 }
 
-/// The number is refused at its pointer.
-fn number(body: Body<'_>) -> Result<Number, Refusal>
-    ensures bad { refused result ≡ bad_value (bad_at (is_some (number_in (body_of body.entry).field)) 8) }
-    ensures value { IfOk result (λ n. Some (number_of n) ≡ number_in (body_of body.entry).field) }
-{
-    called_number(body.field).ok_or(System::Isup.refuses(Reason::BadValue, NUMBER))
-}
-
-/// A bearer that came is refused at its tag.
-fn bearer(body: Body<'_>) -> Result<Option<Bearer>, Refusal>
-    ensures bad { refused result ≡ bad_value (bad_at (not (there (body_of body.entry).bearer) || is_ok (bearer_in (body_of body.entry).bearer)) (body_of body.entry).bearer_at) }
-    ensures value { IfOk result (λ b. Options.option_map bearer_of b ≡ (if there (body_of body.entry).bearer then Some (body_of body.entry).bearer else None)) }
-{
-    if body.bearer.contents.is_empty() {
-        return Ok(None);
-    }
-    let bearer = served(body.bearer.contents).ok_or(System::Isup.refuses(
-        Reason::BadValue,
-        body.bearer.place,
-    ))?;
-    Ok(Some(bearer))
-}
-
-/// The carried parts, refused at place 0 or at user-user's tag.
-fn parts(body: Body<'_>) -> Result<Parts, Refusal>
-    ensures bad { refused result ≡ bad_value (parts_bad (body_of body.entry)) }
-    ensures value { IfOk result (λ p. side.parts_of p ≡ parts_of (five_of (body_of body.entry))) }
-{
-    carried::parts(body.access.contents, Some(body.user.contents)).map_err(|fault| {
-        System::Isup.refuses(
-            Reason::BadValue,
-            carried::refused_at(fault, body.user.place),
-        )
-    })
-}
-
-/// What a setup says: it needs a number of at least two octets.
-fn setup(body: Body<'_>) -> Result<Signal, Refusal>
-    ensures { signal_as result ≡ setup_read (body_of body.entry) }
-{
-    if body.field.len() < 2 {
-        return Err(System::Isup.refuses(Reason::Missing, 0));
-    }
-    let (medium, (number, (bearer, parts))) = both(
-        medium(body),
-        both(number(body), both(bearer(body), parts(body))),
-    )?;
-    Ok(Signal::Setup(Setup {
-        bearer: bearer.unwrap_or(medium),
-        number,
-        progress: progress(body),
-        isdn: body.message.octet(SECOND_FORWARD) % 2 == 1,
-        parts,
-    }))
-}
-
-// Two functions: each is one line, and a helper that takes the constructor would be a third.
-/// What a message says that rings the called party.
-fn alerting(body: Body<'_>, isdn: bool) -> Result<Signal, Refusal>
-    ensures { signal_as result ≡ judged (parts_bad (body_of body.entry)) kind.Alerting (party_says isdn (body_of body.entry)) }
-{
-    Ok(Signal::Alerting(progress(body), isdn, parts(body)?))
-}
-
-/// What a message says by which the called party answers.
-fn answer(body: Body<'_>, isdn: bool) -> Result<Signal, Refusal>
-    ensures { signal_as result ≡ judged (parts_bad (body_of body.entry)) kind.Answer (party_says isdn (body_of body.entry)) }
-{
-    Ok(Signal::Answer(progress(body), isdn, parts(body)?))
-}
-
-/// Progress in access transport.
-fn progress(body: Body<'_>) -> Option<Progress>
-    ensures { Options.option_map signals.progress_of result ≡ progress_of (body_of body.entry) }
-{
-    carried::progress(body.access.contents)
-}
-
-/// The ISDN indicator of a message that goes backward.
-fn backward_isdn(body: Body<'_>) -> bool
-    ensures { result ≡ backward_isdn (body_of body.entry) }
-{
-    body.message.octet(SECOND_BACKWARD) / 16 % 2 == 1
-}
-
-/// An address complete message rings if the subscriber is free.
-fn complete(body: Body<'_>) -> Result<Signal, Refusal>
-    ensures { signal_as result ≡ complete_read (body_of body.entry) }
-{
-    let isdn = backward_isdn(body);
-    if body.message.octet(FIRST_BACKWARD) / 4 % 4 == SUBSCRIBER_FREE {
-        alerting(body, isdn)
-    } else {
-        Ok(Signal::Complete(progress(body), isdn))
-    }
-}
-
 /// An event of progress says something only with its indicator.
 fn progress_event(progress: Option<Progress>) -> Result<Signal, Refusal>
     ensures { signal_as result ≡ event_read (Options.option_map signals.progress_of progress) }
@@ -182,44 +77,152 @@ fn progress_event(progress: Option<Progress>) -> Result<Signal, Refusal>
     Ok(progress.map_or(Signal::Quiet, |progress| Signal::Progress(progress, true)))
 }
 
-/// A call progress message says what its event is; in-band information is progress whatever indicator came.
-fn event(body: Body<'_>) -> Result<Signal, Refusal>
-    ensures { signal_as result ≡ progress_read (body_of body.entry) }
-{
-    match Event::try_from(body.message.octet(EVENT) % 128) {
-        Ok(Event::Alerting) => alerting(body, true),
-        Ok(Event::Progress) => progress_event(progress(body)),
-        Ok(Event::InBand) => Ok(Signal::Progress(
-            Progress {
-                location: 0x82,
-                description: 0x88,
-            },
-            true,
-        )),
-        Err(_) => Err(System::Isup.refuses(Reason::BadValue, EVENT)),
+impl Body<'_> {
+    /// The medium is refused at its place.
+    fn medium(self) -> Result<Bearer, Refusal>
+        ensures bad { refused result ≡ bad_value (bad_at (is_some (medium_bearer (slice_index (body_of self.entry).octets 7))) 7) }
+        ensures value { IfOk result (λ b. Some (bearer_of b) ≡ medium_bearer (slice_index (body_of self.entry).octets 7)) }
+    {
+        let refusal = System::Isup.refuses(Reason::BadValue, MEDIUM);
+        medium_bearer(self.message.octet(MEDIUM)).ok_or(refusal)
     }
-}
 
-/// A release needs a whole cause.
-fn release(body: Body<'_>) -> Result<Signal, Refusal>
-    ensures { signal_as result ≡ release_read (cause_in (body_of body.entry).field) (body_of body.entry) }
-{
-    let cause = Cause::read(body.field).ok_or(System::Isup.refuses(Reason::Missing, 0))?;
-    Ok(Signal::Clear(cause, parts(body)?))
-}
+    /// The number is refused at its pointer.
+    fn number(self) -> Result<Number, Refusal>
+        ensures bad { refused result ≡ bad_value (bad_at (is_some (number_in (body_of self.entry).field)) 8) }
+        ensures value { IfOk result (λ n. Some (number_of n) ≡ number_in (body_of self.entry).field) }
+    {
+        called_number(self.field).ok_or(System::Isup.refuses(Reason::BadValue, NUMBER))
+    }
 
-/// What the body of a message says.
-fn signal(kind: MessageType, body: Body<'_>) -> Result<Signal, Refusal>
-    ensures { signal_as result ≡ body_read kind (body_of body.entry) }
-{
-    match kind {
-        MessageType::InitialAddress => setup(body),
-        MessageType::AddressComplete => complete(body),
-        MessageType::Connect => answer(body, backward_isdn(body)),
-        MessageType::Answer => answer(body, true),
-        MessageType::CallProgress => event(body),
-        MessageType::Release => release(body),
-        MessageType::ReleaseComplete => Ok(Signal::Down),
+    /// A bearer that came is refused at its tag.
+    fn bearer(self) -> Result<Option<Bearer>, Refusal>
+        ensures bad { refused result ≡ bad_value (bad_at (not (there (body_of self.entry).bearer) || is_ok (bearer_in (body_of self.entry).bearer)) (body_of self.entry).bearer_at) }
+        ensures value { IfOk result (λ b. Options.option_map bearer_of b ≡ (if there (body_of self.entry).bearer then Some (body_of self.entry).bearer else None)) }
+    {
+        if self.bearer.contents.is_empty() {
+            return Ok(None);
+        }
+        let bearer = served(self.bearer.contents).ok_or(System::Isup.refuses(
+            Reason::BadValue,
+            self.bearer.place,
+        ))?;
+        Ok(Some(bearer))
+    }
+
+    /// The carried parts, refused at place 0 or at user-user's tag.
+    fn parts(self) -> Result<Parts, Refusal>
+        ensures bad { refused result ≡ bad_value (parts_bad (body_of self.entry)) }
+        ensures value { IfOk result (λ p. side.parts_of p ≡ parts_of (five_of (body_of self.entry))) }
+    {
+        carried::parts(self.access.contents, Some(self.user.contents)).map_err(|fault| {
+            System::Isup.refuses(
+                Reason::BadValue,
+                carried::refused_at(fault, self.user.place),
+            )
+        })
+    }
+
+    /// What a setup says: it needs a number of at least two octets.
+    fn setup(self) -> Result<Signal, Refusal>
+        ensures { signal_as result ≡ setup_read (body_of self.entry) }
+    {
+        if self.field.len() < 2 {
+            return Err(System::Isup.refuses(Reason::Missing, 0));
+        }
+        let (medium, (number, (bearer, parts))) = both(
+            self.medium(),
+            both(self.number(), both(self.bearer(), self.parts())),
+        )?;
+        Ok(Signal::Setup(Setup {
+            bearer: bearer.unwrap_or(medium),
+            number,
+            progress: self.progress(),
+            isdn: self.message.octet(SECOND_FORWARD) % 2 == 1,
+            parts,
+        }))
+    }
+
+    // Two functions: each is one line, and a helper that takes the constructor would be a third.
+    /// What a message says that rings the called party.
+    fn alerting(self, isdn: bool) -> Result<Signal, Refusal>
+        ensures { signal_as result ≡ judged (parts_bad (body_of self.entry)) kind.Alerting (party_says isdn (body_of self.entry)) }
+    {
+        Ok(Signal::Alerting(self.progress(), isdn, self.parts()?))
+    }
+
+    /// What a message says by which the called party answers.
+    fn answer(self, isdn: bool) -> Result<Signal, Refusal>
+        ensures { signal_as result ≡ judged (parts_bad (body_of self.entry)) kind.Answer (party_says isdn (body_of self.entry)) }
+    {
+        Ok(Signal::Answer(self.progress(), isdn, self.parts()?))
+    }
+
+    /// Progress in access transport.
+    fn progress(self) -> Option<Progress>
+        ensures { Options.option_map signals.progress_of result ≡ progress_of (body_of self.entry) }
+    {
+        carried::progress(self.access.contents)
+    }
+
+    /// The ISDN indicator of a message that goes backward.
+    fn backward_isdn(self) -> bool
+        ensures { result ≡ backward_isdn (body_of self.entry) }
+    {
+        self.message.octet(SECOND_BACKWARD) / 16 % 2 == 1
+    }
+
+    /// An address complete message rings if the subscriber is free.
+    fn complete(self) -> Result<Signal, Refusal>
+        ensures { signal_as result ≡ complete_read (body_of self.entry) }
+    {
+        let isdn = self.backward_isdn();
+        if self.message.octet(FIRST_BACKWARD) / 4 % 4 == SUBSCRIBER_FREE {
+            self.alerting(isdn)
+        } else {
+            Ok(Signal::Complete(self.progress(), isdn))
+        }
+    }
+
+    /// A call progress message says what its event is; in-band information is progress whatever indicator came.
+    fn event(self) -> Result<Signal, Refusal>
+        ensures { signal_as result ≡ progress_read (body_of self.entry) }
+    {
+        match Event::try_from(self.message.octet(EVENT) % 128) {
+            Ok(Event::Alerting) => self.alerting(true),
+            Ok(Event::Progress) => progress_event(self.progress()),
+            Ok(Event::InBand) => Ok(Signal::Progress(
+                Progress {
+                    location: 0x82,
+                    description: 0x88,
+                },
+                true,
+            )),
+            Err(_) => Err(System::Isup.refuses(Reason::BadValue, EVENT)),
+        }
+    }
+
+    /// A release needs a whole cause.
+    fn release(self) -> Result<Signal, Refusal>
+        ensures { signal_as result ≡ release_read (cause_in (body_of self.entry).field) (body_of self.entry) }
+    {
+        let cause = Cause::read(self.field).ok_or(System::Isup.refuses(Reason::Missing, 0))?;
+        Ok(Signal::Clear(cause, self.parts()?))
+    }
+
+    /// What the body of a message says.
+    fn signal(self, kind: MessageType) -> Result<Signal, Refusal>
+        ensures { signal_as result ≡ body_read kind (body_of self.entry) }
+    {
+        match kind {
+            MessageType::InitialAddress => self.setup(),
+            MessageType::AddressComplete => self.complete(),
+            MessageType::Connect => self.answer(self.backward_isdn()),
+            MessageType::Answer => self.answer(true),
+            MessageType::CallProgress => self.event(),
+            MessageType::Release => self.release(),
+            MessageType::ReleaseComplete => Ok(Signal::Down),
+        }
     }
 }
 
@@ -231,7 +234,7 @@ pub fn read(legs: usize, message: &[u8]) -> Result<Reading, Refusal>
     let kind = message.kind()?;
     let leg = message.leg(legs)?;
     let body = Body::whole(message, kind)?;
-    let signal = signal(kind, body)?;
+    let signal = body.signal(kind)?;
     Ok(Reading {
         leg,
         heard: message.octet(TYPE),

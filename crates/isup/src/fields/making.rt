@@ -59,9 +59,7 @@ pub(crate) fn number_field(number: &Number) -> Held<14>
 {
     let mut octets = [0u8; MOST];
     // Eleven octets hold the signals of every number.
-    let Ok(signals) = number.digits.pack(&mut octets[SIGNALS..]) else {
-        unreachable()
-    };
+    let signals = number.digits.pack(&mut octets[SIGNALS..]).unwrap();
     octets[0] = 2 + signals as u8;
     octets[1] = number.kind.nature() + odd_bit(number.digits.signals_odd());
     octets[2] = TELEPHONY;
