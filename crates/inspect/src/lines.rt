@@ -1,12 +1,10 @@
 //! Prints what a line's message says.
-use inspection::{Characters, Found};
-use line::reading;
+use inspection::Found;
+use line::{Line, reading};
+use side::Signalling;
 use side::contents::{Reading, Signal};
 use std::io;
-use text::Octets;
-
-/// The most lines that a side has: a capture does not say how many there are.
-const MOST_LINES: usize = 32;
+use text::{Characters, Octets};
 
 /// What a reading says.
 fn show_reading(rt: &HostRuntime, reading: &Reading) -> io::Result<()> {
@@ -27,7 +25,8 @@ fn show_reading(rt: &HostRuntime, reading: &Reading) -> io::Result<()> {
 
 /// One message of a line: leg, event, kind and digits, or the refusal.
 pub fn show_line(rt: &HostRuntime, octets: &[u8]) -> io::Result<Found> {
-    match reading::read(MOST_LINES, octets) {
+    // As many lines as a side can have: a capture does not say how many there are.
+    match reading::read(<Line as Signalling>::MOST_LEGS, octets) {
         Ok(reading) => {
             show_reading(rt, &reading)?;
             Ok(Found::default())

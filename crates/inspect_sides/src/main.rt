@@ -5,13 +5,10 @@ mod trunk;
 mod verdict;
 
 use inspection::{Found, Kind};
+use line::Line;
+use side::Signalling;
+use side::leg::MOST_LEGS;
 use std::io;
-
-/// The most lines that a side has: a capture does not say how many there are.
-const MOST_LINES: usize = 32;
-
-/// The most legs of a side of either digital system.
-const MOST_LEGS: usize = 64;
 
 /// What a line holds.
 #[derive(Clone, Copy)]
@@ -33,6 +30,7 @@ impl Kind for Message {
         }
     }
 
+    // As many legs as a side can have: a capture does not say how many there are.
     fn show(self, rt: &HostRuntime, octets: &[u8]) -> io::Result<Found> {
         match self {
             Message::Dss1 => {
@@ -49,7 +47,7 @@ impl Kind for Message {
                 verdict::show(
                     rt,
                     Found::default(),
-                    line::reading::read(MOST_LINES, octets),
+                    line::reading::read(<Line as Signalling>::MOST_LEGS, octets),
                 )
             }
         }

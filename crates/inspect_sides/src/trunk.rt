@@ -3,7 +3,7 @@ use inspection::Found;
 use isup_meaning::types::MessageType;
 use std::io;
 use text::Octets;
-use wording::Page;
+use wording::{INDENT, Page};
 
 /// How many octets the head has: circuit and type.
 const HEAD: usize = 3;
@@ -39,6 +39,7 @@ impl Message<'_> {
         }
     }
 
+    // The pointer is shown in both, and not by a helper of their own: that would have to answer three ways, missing, 00 or a place.
     /// The field that the pointer at a place reaches.
     fn show_field(self, place: usize) -> io::Result<Found> {
         let page = self.page;
@@ -104,7 +105,7 @@ impl Message<'_> {
 
 /// An ISUP message.
 pub fn show_isup(rt: &HostRuntime, octets: &[u8]) -> io::Result<Found> {
-    let page = Page { rt, indent: "  " };
+    let page = Page { rt, indent: INDENT };
     let Some(head) = octets.get(0..HEAD) else {
         return show_missing(page, "it breaks off", octets.len());
     };

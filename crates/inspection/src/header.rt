@@ -24,6 +24,7 @@ pub struct Message<'a> {
 /// Why a message has no header.
 #[derive(Clone, Copy)]
 pub enum HeaderFault {
+    // The octet itself in this fault and the next: a capture may hold any.
     /// The first octet is not 08.
     NotDss1(u8),
     /// The second octet is not 01, so that the reference has not one octet.

@@ -13,4 +13,4 @@ mod types;
 
 pub use lines::inspect;
 pub use report::{show_dss1, show_field, show_parameters};
-pub use types::{Characters, Found, Kind, Tally};
+pub use types::{Found, Kind, Tally};

@@ -1,34 +1,27 @@
 //! Reads messages in hex, one a line, and has each shown.
 ghost use Rattle.std.specs.Prelude.{◌≡◌, take};
 
-use crate::types::{Characters, Count, Kind, Tally};
+use crate::types::{Count, Kind, Tally};
 use std::alloc::Global;
 use std::io::Read;
 use std::{fmt, io};
-use text::{HexFault, Lines};
+use text::{Characters, HexFault, Lines};
 
 /// The most characters that are shown of a word that is not known.
 const MOST_SHOWN: usize = 32;
 
-/// Why a line is not a message; places are columns, counted from 1.
+/// Why a line is not a message.
 #[derive(Clone, Copy)]
 enum LineFault<'a> {
+    /// Its first word names no kind of message.
     UnknownWord(&'a [u8]),
-    NotHex(usize),
-    OddDigit(usize),
-    NoMemory,
+    /// The text after its word is not hex; so many characters stand before that text.
+    Octets(HexFault, usize),
 }
 
-impl LineFault<'_> {
-    /// A fault of the text after a word as a fault of the line, where so many characters stand before that text.
-    fn behind<'a>(fault: HexFault, before: usize) -> LineFault<'a> {
-        let column = |place: usize| before.saturating_add(place).saturating_add(1);
-        match fault {
-            HexFault::NotHex(place) => LineFault::NotHex(column(place)),
-            HexFault::OddDigit(place) => LineFault::OddDigit(column(place)),
-            HexFault::NoMemory => LineFault::NoMemory,
-        }
-    }
+/// The column of a place in a text before which so many characters stand, counted from 1.
+fn column(before: usize, place: usize) -> usize {
+    before.saturating_add(place).saturating_add(1)
 }
 
 impl fmt::Display for LineFault<'_> {
@@ -38,16 +31,20 @@ impl fmt::Display for LineFault<'_> {
                 let front = Characters(shown(word));
                 write!(f, "unknown word \"{front}\"")
             }
-            LineFault::NotHex(column) => write!(f, "no hex digit in column {column}"),
-            LineFault::OddDigit(column) => write!(
+            LineFault::Octets(HexFault::NotHex(place), before) => {
+                write!(f, "no hex digit in column {}", column(before, place))
+            }
+            LineFault::Octets(HexFault::OddDigit(place), before) => write!(
                 f,
-                "a hex digit without its second in column {column}"
+                "a hex digit without its second in column {}",
+                column(before, place)
             ),
-            LineFault::NoMemory => write!(f, "no memory for its octets"),
+            LineFault::Octets(HexFault::NoMemory, _) => write!(f, "no memory for its octets"),
         }
     }
 }
 
+// By its length and not by `get(..MOST_SHOWN)` and `unwrap_or`: that leaves the proof of the contract open.
 /// As much of a word as is shown.
 fn shown(word: &[u8]) -> &[u8]
     ensures { result.now ≡ take 32 word.now }
@@ -75,16 +72,12 @@ impl<'a, K: Kind> Message<'a, K> {
         if word.is_empty() {
             return Ok(None);
         }
-        let Some(kind) = K::of(word) else {
-            return Err(LineFault::UnknownWord(word));
-        };
-        match text::read_octets(rest, heap) {
-            Ok(octets) => Ok(Some(Message { word, kind, octets })),
-            Err(fault) => {
-                let before = line.len().saturating_sub(rest.len());
-                Err(LineFault::behind(fault, before))
-            }
-        }
+        let kind = K::of(word).ok_or(LineFault::UnknownWord(word))?;
+        let before = line.len().saturating_sub(rest.len());
+        let octets = text::read_octets(rest, heap).map_err(|fault| LineFault::Octets(
+            fault, before,
+        ))?;
+        Ok(Some(Message { word, kind, octets }))
     }
 }
 

@@ -1,22 +1,20 @@
 //! What the contents of an element say, in words.
-use crate::types::Characters;
 use digits::{DigitFault, Digits};
 use elements::{Coding, Dss1, Isup};
 use std::fmt;
+use text::Characters;
 use values::{BearerFault, Capability, NumberType};
 use wording::names;
 
 /// What the contents of an element say.
 #[derive(Clone, Copy)]
 pub enum Meaning {
-    /// Nothing that is read here.
-    Plain,
     /// Less than the element has to have.
     CutShort,
     /// A number: its type and its digits.
     Number(Result<NumberType, NoType>, Result<Digits, DigitFault>),
-    /// A cause: location and value.
-    Cause(u8, u8),
+    /// A cause.
+    Cause(names::LocatedCause),
     /// A progress: location and description.
     Progress(u8, u8),
     /// What a connection has to carry.
@@ -32,8 +30,8 @@ pub trait Described: Coding {
     /// The usual name of a tag.
     fn name(tag: u8) -> &'static str;
 
-    /// What the contents of an element with this tag say.
-    fn meaning(tag: u8, contents: &[u8]) -> Meaning;
+    /// What the contents of an element with this tag say, where they are read here.
+    fn meaning(tag: u8, contents: &[u8]) -> Option<Meaning>;
 }
 
 impl Described for Dss1 {
@@ -41,13 +39,13 @@ impl Described for Dss1 {
         names::element(tag)
     }
 
-    fn meaning(tag: u8, contents: &[u8]) -> Meaning {
+    fn meaning(tag: u8, contents: &[u8]) -> Option<Meaning> {
         match tag {
-            0x04 => Meaning::Bearer(values::bearer(contents)),
-            0x08 => cause(contents),
-            0x1E => progress(contents),
-            0x4C | 0x6C | 0x70 | 0x74 => dialled_number(contents),
-            _ => Meaning::Plain,
+            0x04 => Some(Meaning::Bearer(values::bearer(contents))),
+            0x08 => Some(cause(contents)),
+            0x1E => Some(progress(contents)),
+            0x4C | 0x6C | 0x70 | 0x74 => Some(dialled_number(contents)),
+            _ => None,
         }
     }
 }
@@ -57,12 +55,12 @@ impl Described for Isup {
         names::parameter(tag)
     }
 
-    fn meaning(tag: u8, contents: &[u8]) -> Meaning {
+    fn meaning(tag: u8, contents: &[u8]) -> Option<Meaning> {
         match tag {
-            0x0A | 0x0B | 0x21 | 0x28 => packed_number(contents),
-            0x12 => cause(contents),
-            0x1D => Meaning::Bearer(values::bearer(contents)),
-            _ => Meaning::Plain,
+            0x0A | 0x0B | 0x21 | 0x28 => Some(packed_number(contents)),
+            0x12 => Some(cause(contents)),
+            0x1D => Some(Meaning::Bearer(values::bearer(contents))),
+            _ => None,
         }
     }
 }
@@ -73,7 +71,7 @@ fn cause(contents: &[u8]) -> Meaning {
     let read = values::cause(contents);
     read.map_or(
         Meaning::CutShort,
-        |(location, value)| Meaning::Cause(location, value),
+        |(location, value)| Meaning::Cause(names::LocatedCause { location, value }),
     )
 }
 
@@ -118,7 +116,6 @@ fn packed_number(contents: &[u8]) -> Meaning {
 impl fmt::Display for Meaning {
     fn fmt<W: fmt::Write>(&self, f: &mut fmt::Formatter<W>) -> fmt::Result {
         match *self {
-            Meaning::Plain => write!(f, "not read"),
             Meaning::CutShort => write!(f, "too short for what it is"),
             Meaning::Number(kind, digits) => {
                 match kind {
@@ -130,11 +127,7 @@ impl fmt::Display for Meaning {
                     Err(fault) => write!(f, "; outside the rule: {}", FromOne(fault)),
                 }
             }
-            Meaning::Cause(location, value) => {
-                let words = names::cause(value);
-                let from = names::location(location);
-                write!(f, "cause {value}, {words}; location {location}, {from}")
-            }
+            Meaning::Cause(cause) => write!(f, "{cause}"),
             Meaning::Progress(location, description) => {
                 let words = names::progress(description);
                 let from = names::location(location);

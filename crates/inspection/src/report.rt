@@ -12,7 +12,7 @@ use elements::{Dss1, Elements, Isup};
 use lists::take_apart;
 use std::io;
 use text::Octets;
-use wording::{Page, names};
+use wording::{INDENT, Page, names};
 
 /// The tag of the parameter that holds DSS 1 elements.
 const ACCESS_TRANSPORT: u8 = 0x03;
@@ -20,17 +20,14 @@ const ACCESS_TRANSPORT: u8 = 0x03;
 /// How many octets the header of a DSS 1 message has.
 const HEADER: usize = 4;
 
-/// What stands in front of each line of a message.
-const INDENT: &str = "  ";
-
 /// What stands in front of each line of a list that is nested in another.
 const NESTED: &str = "      ";
 
 /// What the contents of an element say, where they are read.
-fn show_meaning(page: Page<'_>, meaning: Meaning) -> io::Result<()> {
+fn show_meaning(page: Page<'_>, meaning: Option<Meaning>) -> io::Result<()> {
     match meaning {
-        Meaning::Plain => Ok(()),
-        meaning => page.line(format_args!("            {meaning}")),
+        Some(meaning) => page.line(format_args!("            {meaning}")),
+        None => Ok(()),
     }
 }
 
@@ -129,10 +126,8 @@ pub fn show_dss1(rt: &HostRuntime, octets: &[u8]) -> io::Result<Found>
         Err(fault) => {
             page.line(format_args!("bad header: {fault}"))?;
             return Ok(Found {
-                elements: 0,
                 broken: true,
-                same: false,
-                refused: false,
+                ..Found::default()
             });
         }
     };
@@ -150,7 +145,7 @@ pub fn show_dss1(rt: &HostRuntime, octets: &[u8]) -> io::Result<Found>
         elements: items.len(),
         broken,
         same,
-        refused: false,
+        ..Found::default()
     })
 }
 
@@ -191,6 +186,7 @@ pub fn show_parameters(rt: &HostRuntime, start: usize, octets: &[u8]) -> io::Res
         elements: items.len().saturating_add(inside.elements),
         broken: broken || inside.broken,
         same,
+        // Not `..Found::default()`: with that the answer to this contract stays open.
         refused: false,
     })
 }

@@ -39,10 +39,7 @@ impl fmt::Display for RewriteFault {
 pub fn reach(end: Result<usize, ListFault>) -> usize
     ensures { result ≡ reaches end }
 {
-    match end {
-        Ok(n) => n,
-        Err(fault) => fault.place(),
-    }
+    end.unwrap_or_else(|fault| fault.place())
 }
 
 /// Whether what was written is the front of the octets, so many of them.

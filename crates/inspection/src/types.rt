@@ -90,19 +90,3 @@ impl fmt::Display for Count {
         }
     }
 }
-
-/// Octets that are shown as characters; what is no printing character is shown in hex.
-#[derive(Clone, Copy)]
-pub struct Characters<'a>(pub &'a [u8]);
-
-impl fmt::Display for Characters<'_> {
-    fn fmt<W: fmt::Write>(&self, f: &mut fmt::Formatter<W>) -> fmt::Result {
-        for octet in self.0 {
-            match *octet {
-                b' '..=b'~' => write!(f, "{}", char::from(*octet))?,
-                other => write!(f, "\\x{other:02X}")?,
-            }
-        }
-        Ok(())
-    }
-}

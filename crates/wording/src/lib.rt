@@ -5,4 +5,4 @@ pub mod names;
 mod page;
 mod readings;
 
-pub use page::Page;
+pub use page::{INDENT, Page};

@@ -1,6 +1,9 @@
 //! The usual names of message types, elements, parameters, causes and the like.
 //!
 //! Of octets and not of enums: a capture may hold any octet, and each is shown.
+//! An octet without a name has words that say so, and no None: each line shows them where a name would stand.
+
+use std::fmt;
 
 /// The name of a message type of DSS 1.
 pub fn message_type(code: u8) -> &'static str {
@@ -140,5 +143,23 @@ pub fn location(code: u8) -> &'static str {
         7 => "international network",
         10 => "network beyond an interworking point",
         _ => "unknown location",
+    }
+}
+
+/// A cause in words: its value and where it comes from, each with its usual name.
+#[derive(Clone, Copy)]
+pub struct LocatedCause {
+    /// The code of the location.
+    pub location: u8,
+    /// The value.
+    pub value: u8,
+}
+
+impl fmt::Display for LocatedCause {
+    fn fmt<W: fmt::Write>(&self, f: &mut fmt::Formatter<W>) -> fmt::Result {
+        let words = cause(self.value);
+        let from = location(self.location);
+        let LocatedCause { location, value } = *self;
+        write!(f, "cause {value}, {words}; location {location}, {from}")
     }
 }

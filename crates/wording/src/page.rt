@@ -1,6 +1,9 @@
 //! Where words are printed: lines with an indent of their own.
 use std::{fmt, io};
 
+/// What stands in front of each line of a message.
+pub const INDENT: &str = "  ";
+
 /// Standard output, each of whose lines begins with the same blanks.
 #[derive(Clone, Copy)]
 pub struct Page<'a> {

@@ -3,49 +3,19 @@ use crate::names;
 use crate::page::Page;
 use side::contents::{Cause, Progress, Reading, Setup, Signal};
 use side::parts::Parts;
-use std::{fmt, io};
-use text::Octets;
-
-/// Digits of a number, as characters.
-#[derive(Clone, Copy)]
-struct Dialled<'a>(&'a [u8]);
-
-impl fmt::Display for Dialled<'_> {
-    fn fmt<W: fmt::Write>(&self, f: &mut fmt::Formatter<W>) -> fmt::Result {
-        for digit in self.0 {
-            write!(f, "{}", char::from(*digit))?;
-        }
-        Ok(())
-    }
-}
-
-/// Where a setup comes from, by whether that is an ISDN.
-#[derive(Clone, Copy)]
-struct Origin {
-    isdn: bool,
-}
-
-impl fmt::Display for Origin {
-    fn fmt<W: fmt::Write>(&self, f: &mut fmt::Formatter<W>) -> fmt::Result {
-        let not = if self.isdn { "" } else { "not " };
-        write!(f, "{not}from an ISDN")
-    }
-}
-
-/// What the called party's access is, by whether it is an ISDN's.
-#[derive(Clone, Copy)]
-struct Access {
-    isdn: bool,
-}
-
-impl fmt::Display for Access {
-    fn fmt<W: fmt::Write>(&self, f: &mut fmt::Formatter<W>) -> fmt::Result {
-        let no = if self.isdn { "" } else { "no " };
-        write!(f, "{no}ISDN access")
-    }
-}
+use std::io;
+use text::{Characters, Octets};
 
 impl Page<'_> {
+    /// Whether the called party has an ISDN's access.
+    fn access(self, isdn: bool) -> io::Result<()> {
+        self.line(if isdn {
+            "ISDN access"
+        } else {
+            "no ISDN access"
+        })
+    }
+
     /// Progress, if any came.
     fn progress(self, progress: Option<Progress>) -> io::Result<()> {
         let Some(progress) = progress else {
@@ -79,28 +49,31 @@ impl Page<'_> {
     fn setup(self, setup: &Setup) -> io::Result<()> {
         let bearer = Octets(setup.bearer.as_octets());
         let kind = setup.number.kind;
-        let digits = Dialled(setup.number.digits.as_octets());
+        let digits = Characters(setup.number.digits.as_octets());
         self.line(format_args!("bearer {bearer}"))?;
         self.line(format_args!("{kind}, digits {digits}"))?;
-        self.line(Origin { isdn: setup.isdn })?;
+        self.line(if setup.isdn {
+            "from an ISDN"
+        } else {
+            "not from an ISDN"
+        })?;
         self.progress(setup.progress)?;
         self.parts(&setup.parts)
     }
 
     /// What a called party says.
     fn party(self, progress: Option<Progress>, isdn: bool, parts: &Parts) -> io::Result<()> {
-        self.line(Access { isdn })?;
+        self.access(isdn)?;
         self.progress(progress)?;
         self.parts(parts)
     }
 
     /// Why a call ends.
     fn clear(self, cause: Cause, parts: &Parts) -> io::Result<()> {
-        let value = cause.value();
-        let location = cause.location();
-        let words = names::cause(value);
-        let from = names::location(location);
-        self.line(format_args!("cause {value}, {words}; location {location}, {from}"))?;
+        self.line(names::LocatedCause {
+            location: cause.location(),
+            value: cause.value(),
+        })?;
         self.parts(parts)
     }
 
@@ -109,11 +82,11 @@ impl Page<'_> {
         match *signal {
             Signal::Setup(setup) => self.setup(&setup),
             Signal::Complete(progress, isdn) => {
-                self.line(Access { isdn })?;
+                self.access(isdn)?;
                 self.progress(progress)
             }
             Signal::Progress(progress, isdn) => {
-                self.line(Access { isdn })?;
+                self.access(isdn)?;
                 self.progress(Some(progress))
             }
             Signal::Alerting(progress, isdn, parts) | Signal::Answer(progress, isdn, parts) => {
