@@ -10,7 +10,7 @@ ghost use Rattle.held.specs.Held.{octets_of};
 ghost use Rattle.side.specs.Contents as side;
 ghost use Rattle.side.specs.Signals as signals;
 ghost use Rattle.side.specs.Contents.{came};
-ghost use Rattle.carried.specs.Carried.{five_in, parts_of, fault_of, progress_in, sooner, first_of, earlier, both, parts_bad_at, progress_octets, cause_octets};
+ghost use Rattle.carried.specs.Carried.{five_in, parts_of, fault_of, progress_in, sooner, first_of, both, parts_bad_at, progress_octets, cause_octets};
 
 use elements::Dss1;
 use held::Held;
@@ -75,7 +75,7 @@ pub fn cause_octets(cause: Cause) -> Held<2>
     Held::of(&[LAST + cause.location(), LAST + cause.value()]).unwrap()
 }
 
-// Over places alone; refusals are chosen by `earlier`.
+// Over places alone; of refusals `both` tells the one at the smaller place.
 /// Of two places the smaller.
 pub fn sooner(a: Option<usize>, b: Option<usize>) -> Option<usize>
     ensures { result ≡ sooner a b }
@@ -92,17 +92,6 @@ fn first_of(a: Refusal, b: Refusal) -> Refusal
 {
     // Not `min_by_key`: its closure would say the same at more length.
     if a.place <= b.place { a } else { b }
-}
-
-// Options, and no Results that rise by `?`: of two faults the one at the smaller place counts, not the first asked for.
-/// What stands first, where something may stand against each of two things.
-pub fn earlier(a: Option<Refusal>, b: Option<Refusal>) -> Option<Refusal>
-    ensures { result ≡ earlier a b }
-{
-    match (a, b) {
-        (Some(a), Some(b)) => Some(first_of(a, b)),
-        (a, b) => a.or(b),
-    }
 }
 
 /// Both values, or the refusal at the smaller place, the first of two at one place.

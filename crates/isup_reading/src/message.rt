@@ -6,13 +6,12 @@ use elements::types::ListFault;
 use isup_meaning::types::MessageType;
 use side::kinds::{Layer, Reason, Refusal, System};
 use side::leg::Leg;
+use side::refusing::LONGEST;
 
 /// The place of the type.
 pub(crate) const TYPE: usize = 2;
 /// How many octets the head has: circuit and type.
 const HEAD: usize = 3;
-/// The longest message.
-const LONGEST: usize = 255;
 
 /// A message that has its head and is not too long.
 #[derive(Clone, Copy)]
@@ -38,7 +37,7 @@ impl<'a> Message<'a> {
     pub(crate) fn new(octets: &'a [u8]) -> Result<Message<'a>, Refusal>
         ensures { MatchResult result (λ m. (true ≡ headed octets.now) × (m.octets.now ≡ octets.now)) (λ e. (false ≡ headed octets.now) × (e ≡ refusal Malformed 0)) }
     {
-        if octets.len() >= HEAD && octets.len() <= LONGEST {
+        if (HEAD..=LONGEST).contains(&octets.len()) {
             Ok(Message { octets })
         } else {
             Err(System::Isup.refuses(Reason::Malformed, 0))

@@ -32,10 +32,8 @@ pub(crate) fn progress_octets(progress: Option<Progress>) -> Held<2>
     ensures { octets_of result ≡ progress_octets (but_in_band (option_map progress_of progress)) }
 {
     match progress {
-        Some(progress) if !is_in_band(progress) => {
-            Held::of(&[progress.location, progress.description]).unwrap()
-        }
-        _ => Held::none(),
+        Some(progress) if is_in_band(progress) => Held::none(),
+        said => carried::progress_octets(said),
     }
 }
 
@@ -43,7 +41,10 @@ pub(crate) fn progress_octets(progress: Option<Progress>) -> Held<2>
 pub(crate) fn cause_field(cause: Cause) -> Held<14>
     ensures { octets_of result ≡ with_length (cause_octets (Some (cause_of cause))) }
 {
-    Held::of(&[2, 0x80 + cause.location(), 0x80 + cause.value()]).unwrap()
+    let length: Held<14> = Held::of(&[2]).unwrap();
+    length
+        .then(carried::cause_octets(cause).as_octets())
+        .unwrap()
 }
 
 /// The bit that tells an odd count of signals.
