@@ -18,6 +18,7 @@ use side::contents::{Cause, Progress};
 use side::kinds::{PartsFault, Refusal};
 use side::parts::Parts;
 
+// Tags are octets and no enum: a list may hold any tag, and one that is not known is passed over.
 /// The tag of a progress indicator.
 pub const PROGRESS: u8 = 0x1E;
 /// The tag of the calling party's subaddress.

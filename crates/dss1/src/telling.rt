@@ -79,6 +79,7 @@ fn reply(heard: u8) -> Option<(MessageType, Fields)>
     Some((message, Fields::none()))
 }
 
+// Each system has its own `take` and `tell`: what is kept and written differs; what is alike is `check_row` and the table.
 /// Takes what was read: connect, disconnect and release are replied to.
 pub fn take(
     before: Dss1Record,

@@ -6,6 +6,7 @@ use crate::types::MessageType;
 use carried::UnknownOctet;
 use std::fmt;
 
+// A table for each system: its types are its own, and one octet means another type in the other.
 /// The type that an octet stands for.
 impl TryFrom<u8> for MessageType {
     type Error = UnknownOctet;

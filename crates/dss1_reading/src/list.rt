@@ -97,6 +97,7 @@ impl<'a> Body<'a> {
         self.or_refuse(called_number(self.found(NUMBER)), NUMBER)
     }
 
+    // One in each reader: the system that refuses differs, and so does the value that knows the place.
     /// The carried parts.
     pub(crate) fn parts(self) -> Result<Parts, Refusal>
         ensures bad { refused result ≡ option_map (refusal BadValue) (parts_bad (body_in self.entry.octets.now)) }

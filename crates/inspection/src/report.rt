@@ -31,6 +31,7 @@ fn show_meaning(page: Page<'_>, meaning: Option<Meaning>) -> io::Result<()> {
     }
 }
 
+// Page and place are two parameters: a list inside a list is printed on another page, and begins elsewhere.
 /// One element of a list whose first octet stands at a place: its own place, tag, name, length, contents, and what they say.
 fn show_element<C: Described>(
     page: Page<'_>,

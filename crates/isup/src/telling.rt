@@ -59,6 +59,7 @@ fn write_reply(leg: Leg, heard: u8, out: &mut [u8]) -> Result<usize, WriteFault>
     Ok(front.close().length())
 }
 
+// Each system has its own `take` and `tell`: what is kept and written differs; what is alike is `check_row` and the table.
 /// Takes what was read.
 pub fn take(
     before: CircuitRecord,

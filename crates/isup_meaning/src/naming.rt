@@ -5,6 +5,7 @@ ghost use Rattle.isup_meaning.specs.Reading.{type_or_unknown, type_octet};
 use crate::types::MessageType;
 use carried::UnknownOctet;
 
+// A table for each system: its types are its own, and one octet means another type in the other.
 /// The type that an octet stands for.
 impl TryFrom<u8> for MessageType {
     type Error = UnknownOctet;

@@ -4,6 +4,7 @@ ghost use Rattle.isup_reading.specs.Events.{event_or_unknown, event_octet};
 
 use carried::UnknownOctet;
 
+// Tags are octets and no enum: a list may hold any tag, and one that is not known is passed over.
 /// The tag of access transport in the optional list.
 pub const ACCESS: u8 = 0x03;
 /// The tag of the bearer.

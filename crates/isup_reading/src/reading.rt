@@ -110,6 +110,7 @@ impl Body<'_> {
         Ok(Some(bearer))
     }
 
+    // One in each reader: the system that refuses differs, and so does the value that knows the place.
     /// The carried parts, refused at place 0 or at user-user's tag.
     fn parts(self) -> Result<Parts, Refusal>
         ensures bad { refused result ≡ bad_value (parts_bad (body_of self.entry)) }

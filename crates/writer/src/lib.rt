@@ -1,7 +1,8 @@
 //! Writes a message from the front of a buffer.
 //!
 //! A message being written is open, then listing, then closed. Each state is a value of plain numbers
-//! that the next step takes away; the buffer is lent anew for each step. Only a closed message has a length.
+//! that the next step takes away; the buffer is lent anew for each step, since its owner reads and writes it
+//! between the steps. Only a closed message has a length.
 #![tactic(auto)]
 
 ghost use Rattle.std.specs.Prelude.{◌≡◌, ℕ, ◌+◌, ◌^◌, ◌<◌, ◌≤◌, List, [], ◌∷◌, ◌++◌, length, take, drop, slice_set, IfNone, Some, None, MatchResult};
