@@ -27,6 +27,7 @@ pub fn callable(leg: Leg) -> bool
     leg.number() >= FIRST_CALLABLE
 }
 
+// Leg, signal and buffer are the arguments of the trait, and the buffer is lent for each message: no struct holds them.
 /// Writes a message to a leg, if there is one, from the front of a buffer with room for every message.
 fn send(leg: Leg, message: Option<(MessageType, Fields)>, out: &mut [u8]) -> usize
     requires { 256 ≤ length out.old }

@@ -5,6 +5,7 @@ ghost use Rattle.std.specs.Prelude.{◌≡◌, ℕ, ◌≤◌, length};
 
 mod holding;
 
+// An array and a count, and no Vec: what is held is of fixed size and copied, and nothing is allocated for it.
 /// At most `N` octets.
 #[derive(Clone, Copy)]
 pub struct Held<const N: usize> {

@@ -6,6 +6,7 @@ use side::contents::{Reading, Signal};
 use std::io;
 use text::{Characters, Octets};
 
+// Not on a `Page`: this program needs nothing else of `wording`.
 /// What a reading says.
 fn show_reading(rt: &HostRuntime, reading: &Reading) -> io::Result<()> {
     let leg = reading.leg.number();

@@ -39,7 +39,7 @@ impl fmt::Display for LineFault<'_> {
                 "a hex digit without its second in column {}",
                 column(before, place)
             ),
-            LineFault::Octets(HexFault::NoMemory, _) => write!(f, "no memory for its octets"),
+            LineFault::Octets(HexFault::NoMemory, _) => f.write_str("no memory for its octets"),
         }
     }
 }

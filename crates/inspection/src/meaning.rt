@@ -9,6 +9,7 @@ use wording::names;
 /// What the contents of an element say.
 #[derive(Clone, Copy)]
 pub enum Meaning {
+    // A variant, and no Result around the rest: it is printed in the place of a meaning, and nobody hands it on.
     /// Less than the element has to have.
     CutShort,
     /// A number: its type and its digits.
@@ -116,7 +117,7 @@ fn packed_number(contents: &[u8]) -> Meaning {
 impl fmt::Display for Meaning {
     fn fmt<W: fmt::Write>(&self, f: &mut fmt::Formatter<W>) -> fmt::Result {
         match *self {
-            Meaning::CutShort => write!(f, "too short for what it is"),
+            Meaning::CutShort => f.write_str("too short for what it is"),
             Meaning::Number(kind, digits) => {
                 match kind {
                     Ok(kind) => write!(f, "{kind}")?,

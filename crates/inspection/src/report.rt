@@ -117,6 +117,7 @@ fn show_again(
     }
 }
 
+// Runtime and octets are what a program's `Kind` is given to show.
 /// A DSS 1 message.
 pub fn show_dss1(rt: &HostRuntime, octets: &[u8]) -> io::Result<Found>
     ensures { IfOk result (λ found. Dss1Found octets.now found) }

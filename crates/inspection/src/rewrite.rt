@@ -61,6 +61,7 @@ fn compare(octets: &[u8], count: usize, written: &[u8]) -> Result<usize, Rewrite
     }
 }
 
+// The buffer is lent, as the writer wants it; the items are what is written.
 /// Writes a header and a list of DSS 1 elements from the front of a buffer.
 fn write_dss1(buf: &mut [u8], header: &[u8], items: &[Item<'_>]) -> Result<usize, WriteFault>
     ensures octets { IfOk result (λ n. take n buf.new ≡ header.now ++ laid items.now) }

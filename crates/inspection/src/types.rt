@@ -85,7 +85,7 @@ pub struct Count(pub usize);
 impl fmt::Display for Count {
     fn fmt<W: fmt::Write>(&self, f: &mut fmt::Formatter<W>) -> fmt::Result {
         match self.0 {
-            1 => write!(f, "1 octet"),
+            1 => f.write_str("1 octet"),
             n => write!(f, "{n} octets"),
         }
     }

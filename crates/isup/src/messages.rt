@@ -59,6 +59,7 @@ fn medium(bearer: &Bearer) -> u8
     }
 }
 
+// Leg, parts and buffer are three parameters here and below: what is told comes apart, and the buffer is lent.
 /// Fixed octets, and a list with progress and the parts.
 fn fieldless(
     out: &mut [u8],

@@ -42,6 +42,7 @@ fn seized_by(who: Seizer, kind: Kind, before: Option<Seizer>) -> Option<Seizer>
     }
 }
 
+// Leg, signal and buffer are the arguments of the trait, and the buffer is lent for each message: no struct holds them.
 /// A release is replied by a release complete message; nothing else is.
 fn write_reply(leg: Leg, heard: u8, out: &mut [u8]) -> Result<usize, WriteFault>
     ensures { Sent (replied leg.number heard) out.old out.new result }

@@ -33,7 +33,7 @@ const FIRST_BACKWARD: usize = 3;
 /// The place of the second octet of backward indicators.
 const SECOND_BACKWARD: usize = 4;
 // Two bits of an octet, of which this alone is looked for; an enum of them would have one variant in use.
-/// The called party's status in the first of them: subscriber free.
+/// The called party's status, in bits 4 and 3 of the first octet of backward indicators: subscriber free.
 const SUBSCRIBER_FREE: u8 = 1;
 /// The place of the event, in a call progress message.
 const EVENT: usize = 3;
@@ -70,7 +70,7 @@ fn called_number(field: &[u8]) -> Option<Number>
     Some(Number { kind, digits })
 }
 
-/// An event of progress says something only with its indicator.
+/// What an event of progress says: progress, if an indicator came with it, else nothing.
 fn progress_event(progress: Option<Progress>) -> Result<Signal, Refusal>
     ensures { signal_as result ≡ event_read (Options.option_map signals.progress_of progress) }
 {

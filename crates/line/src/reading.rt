@@ -15,11 +15,11 @@ use side::parts::Parts;
 use side::refusing::LONGEST;
 use values::NumberType;
 
-/// The places of a message's head.
+/// The place of the line's number.
 const LINE: usize = 5;
-
+/// The place of the event.
 const EVENT: usize = 6;
-
+/// The place of the count of digits.
 const COUNT: usize = 7;
 /// How many octets the head has; the digits stand behind it.
 const HEAD: usize = 8;

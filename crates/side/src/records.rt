@@ -24,7 +24,7 @@ pub struct CircuitRecord {
 
 /// A number as a record keeps it: its digits as IA5 characters, padded with zeros.
 // An array and a count: a record is of fixed size and copied whole, and the host that lends it reads it as it lies.
-// Not `Digits`: a host may lend a record with any octets in it, and these need not be digits.
+// Not `Digits`: a host may lend a record with any octets in it, and these need not be digits. Not `Held`: its fields are private.
 #[derive(Clone, Copy)]
 pub struct Dialled {
     pub octets: [u8; 20],

@@ -88,7 +88,7 @@ pub struct Octets<'a>(pub &'a [u8]);
 impl fmt::Display for Octets<'_> {
     fn fmt<W: fmt::Write>(&self, f: &mut fmt::Formatter<W>) -> fmt::Result {
         let [first, rest @ ..] = self.0 else {
-            return write!(f, "-");
+            return f.write_str("-");
         };
         write!(f, "{first:02X}")?;
         for octet in rest {

@@ -3,7 +3,7 @@ ghost use Rattle.values.specs.Numbers.{type_of, code_of, type_of_nature, nature_
 
 use crate::types::NumberType;
 
-// By name, as the reading of a nature below is.
+// By name: a `TryFrom<u8>` would not say which of two codes it reads, this one or the nature of address below.
 /// The type of number in the first octet of a called number: bits 7 to 5.
 pub fn number_type(octet: u8) -> Option<NumberType>
     ensures { result ≡ type_of (octet / 16 % 8) }
