@@ -15,7 +15,8 @@ use isup_reading::codes::{ACCESS, BEARER, USER};
 use writer::types::WriteFault;
 use writer::{Closed, Listing, Open};
 
-// The buffer is lent for each step, as the writer wants it.
+// The buffer is lent for each step, as the writer wants it. The clauses below are alike in shape alone: each has its own
+// octets and its own room that suffices, and a definition would take all of that as arguments.
 /// Octets behind what is written.
 pub(crate) fn put(front: Open, out: &mut [u8], octets: &[u8]) -> Result<Open, WriteFault>
     ensures { MatchResult result (λ next. Adds octets.now front.at out.old next.at out.new) (λ _. length out.old < front.at + length octets.now) }

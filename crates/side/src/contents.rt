@@ -57,6 +57,7 @@ pub struct Setup {
     pub parts: Parts,
 }
 
+// What a called party says is three fields and no struct of its own: wherever it is told they come apart again.
 /// A kind with its contents: what one message says, whatever the signalling system.
 #[derive(Clone, Copy)]
 pub enum Signal {

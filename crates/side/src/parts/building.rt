@@ -84,6 +84,7 @@ impl Parts {
         }
     }
 
+    // Five parameters and no array of them: each is found under a tag of its own, and an array would lose their names.
     /// The parts that came; what came empty counts as not there.
     pub fn new(
         calling: Option<&[u8]>,
