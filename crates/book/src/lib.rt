@@ -23,7 +23,7 @@ impl<'a, S: Signalling> LegBook<'a, S> {
         ensures records { result.records.now ≡ opened S.meaning.most S.meaning.blank records.old }
         ensures lender { result.records.ghost_name ≡ records.entry.ghost_name }
     {
-        let n = S::MOST_LEGS.min(records.len());
+        let n = S::leg_limit().min(records.len());
         records[..n].fill_with(|| S::blank());
         LegBook { records }
     }
@@ -32,7 +32,7 @@ impl<'a, S: Signalling> LegBook<'a, S> {
     fn held(&self) -> &[S::Record]
         ensures { result.now ≡ legs_of S.meaning.most self.now.records.now }
     {
-        let n = S::MOST_LEGS.min(self.records.len());
+        let n = S::leg_limit().min(self.records.len());
         &self.records[..n]
     }
 

@@ -1,7 +1,7 @@
 //! DSS 1: the messages of a subscriber's access read and written, and the record of a call place kept.
 #![tactic(auto)]
 
-ghost use Rattle.std.specs.Prelude.{◌≡◌, refl};
+ghost use Rattle.std.specs.Prelude.{◌≡◌};
 ghost use Rattle.dss1_meaning.proofs.Laws.{meaning_of_dss1};
 
 mod fields;
@@ -22,11 +22,11 @@ impl Signalling for Dss1 {
 
     const MOST_LEGS: usize = 64;
 
-    ghost MOST_LEGS = { 64 };
-
     ghost meaning = { meaning_of_dss1 };
 
-    ghost most_legs = { refl };
+    fn leg_limit() -> usize {
+        Self::MOST_LEGS
+    }
 
     fn system() -> System {
         System::Dss1

@@ -3,7 +3,7 @@
 //! One text serves every coding; a coding fixes how its lists end.
 #![tactic(auto)]
 
-ghost use Rattle.std.specs.Prelude.{◌≡◌, ℕ, ◌+◌, ◌-◌, ◌<◌, ◌≤◌, Bool, true, false, Option, length, take, drop, refl, Some, None, MatchOption};
+ghost use Rattle.std.specs.Prelude.{◌≡◌, ℕ, ◌+◌, ◌-◌, ◌<◌, ◌≤◌, true, false, length, take, drop, Some, None, MatchOption};
 ghost use Rattle.std.specs.Option.{option_map};
 ghost use Rattle.std.specs.Iterator.{at_most};
 ghost use Rattle.elements.specs.declared.types.EndRule.{EndRule};
@@ -16,30 +16,18 @@ pub mod types;
 use types::{EndRule, ListElement, ListFault, Seen};
 
 /// A coding of element lists.
-// Code reads the constants and clauses their ghosts; `rule` is both as one value, for clauses about a coding.
 pub trait Coding: Copy {
     /// The tag that ends a list, or none.
     const END: Option<u8>;
     /// Whether a tag of 80 hex or more is a whole element of one octet.
     const SINGLES: bool;
 
-    ghost END: { Option ℕ };
-
-    ghost SINGLES: { Bool };
-
     ghost rule: { EndRule };
 
+    // Written by each coding: to write it here once, the trait would have to ask every coding for more than its rule.
     /// The two constants together, as code that is generic over the coding knows them.
     fn end_rule() -> EndRule
-        ensures { result ≡ rule }
-    {
-        EndRule {
-            end: Self::END,
-            singles: Self::SINGLES,
-        }
-    }
-
-    ghost of_constants: { rule ≡ record { end = END; singles = SINGLES } };
+        ensures { result ≡ rule };
 }
 
 /// The information elements of DSS 1: no end tag, and one-octet elements from tag 80 hex.
@@ -51,13 +39,14 @@ impl Coding for Dss1 {
 
     const SINGLES: bool = true;
 
-    ghost END = { None };
-
-    ghost SINGLES = { true };
-
     ghost rule = { record { end = None; singles = true } };
 
-    ghost of_constants = { refl };
+    fn end_rule() -> EndRule {
+        EndRule {
+            end: Self::END,
+            singles: Self::SINGLES,
+        }
+    }
 }
 
 /// The optional parameters of ISUP: tag 00 ends the list.
@@ -69,13 +58,14 @@ impl Coding for Isup {
 
     const SINGLES: bool = false;
 
-    ghost END = { Some 0 };
-
-    ghost SINGLES = { false };
-
     ghost rule = { record { end = Some 0; singles = false } };
 
-    ghost of_constants = { refl };
+    fn end_rule() -> EndRule {
+        EndRule {
+            end: Self::END,
+            singles: Self::SINGLES,
+        }
+    }
 }
 
 impl EndRule {

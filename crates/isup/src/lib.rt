@@ -1,7 +1,7 @@
 //! ISUP trunks: their messages read and written, and the record of a circuit kept.
 #![tactic(auto)]
 
-ghost use Rattle.std.specs.Prelude.{◌≡◌, refl};
+ghost use Rattle.std.specs.Prelude.{◌≡◌};
 ghost use Rattle.isup_meaning.proofs.Laws.{meaning_of_isup};
 
 mod fields;
@@ -23,11 +23,11 @@ impl Signalling for Isup {
 
     const MOST_LEGS: usize = 64;
 
-    ghost MOST_LEGS = { 64 };
-
     ghost meaning = { meaning_of_isup };
 
-    ghost most_legs = { refl };
+    fn leg_limit() -> usize {
+        Self::MOST_LEGS
+    }
 
     fn system() -> System {
         System::Isup

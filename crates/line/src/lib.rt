@@ -1,7 +1,7 @@
 //! Analogue lines: their messages read and written, and the record of a line kept.
 #![tactic(auto)]
 
-ghost use Rattle.std.specs.Prelude.{◌≡◌, refl};
+ghost use Rattle.std.specs.Prelude.{◌≡◌};
 ghost use Rattle.line_meaning.proofs.Laws.{meaning_of_lines};
 
 pub mod reading;
@@ -21,11 +21,11 @@ impl Signalling for Line {
 
     const MOST_LEGS: usize = 32;
 
-    ghost MOST_LEGS = { 32 };
-
     ghost meaning = { meaning_of_lines };
 
-    ghost most_legs = { refl };
+    fn leg_limit() -> usize {
+        Self::MOST_LEGS
+    }
 
     fn system() -> System {
         System::Line

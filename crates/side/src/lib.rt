@@ -30,11 +30,12 @@ pub trait Signalling {
     /// The most legs of a side.
     const MOST_LEGS: usize;
 
-    ghost MOST_LEGS: { ℕ };
-
     ghost meaning: { Meaning Self.Record };
 
-    ghost most_legs: { MOST_LEGS ≡ meaning.most };
+    // Written by each system: a law about the constant would ask more of those who give a system.
+    /// The most legs, as code that is generic over the system knows them.
+    fn leg_limit() -> usize
+        ensures { result ≡ meaning.most };
 
     /// Which system it is, for its refusals.
     fn system() -> System
@@ -80,7 +81,6 @@ pub trait Side {
     type Record: Copy;
 
     /// The most legs.
-    // No clause names it: a leg book's is its system's, and the toolchain takes no clause about a constant that is defined by another's.
     const MOST_LEGS: usize;
 
     ghost meaning: { Meaning Self.Record };
