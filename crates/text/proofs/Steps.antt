@@ -1,11 +1,13 @@
 -- The steps of the loops that read lines and octets. Rests on the definitions of specs/.
-use Rattle.std.proofs.Common.{◌≡◌, ℕ, ◌+◌, ◌-◌, ◌≤◌, Bool, false, cond, not, unwrap_or, position, List, [], ◌∷◌, ◌++◌, length, drop, Some, None, Ok, Err, Option, Result, sym, refl, ap, ◌∙◌, append_assoc, arith}
+use Rattle.std.proofs.Common.{◌≡◌, ℕ, ◌+◌, ◌-◌, ◌<◌, ◌≤◌, Bool, true, false, cond, not, unwrap_or, position, List, [], ◌∷◌, ◌++◌, length, get_or, drop, Some, None, Ok, Err, Option, Result, sym, refl, ap, ◌∙◌, append_assoc, arith}
+use Rattle.std.proofs.lemmas.List.{at_drop_more}
 use Rattle.std.proofs.lemmas.List.Sums.{prefix_len-le-length}
 use Rattle.std.proofs.lemmas.Bool.Decides.{nat_tests}
 use Rattle.std.specs.List.{position_or_len}
 use Rattle.text.specs.declared.types.HexFault.{HexFault}
+use Rattle.text.specs.declared.types.HexFault.TheVariants.{NotHex, OddDigit, NoMemory}
 use Rattle.text.specs.Parts.{blank}
-use Rattle.text.specs.Hex.{octet_of, joined, octets_from}
+use Rattle.text.specs.Hex.{octet_of, joined, octets_from, Reads}
 
 -- the place of the first character that passes a test, or the end of the text where none does
 pub found : (p : ℕ → Bool) (cs : List ℕ) (n : ℕ) → Some n ≡ position p cs → n ≡ position_or_len p cs
@@ -38,3 +40,14 @@ octet_more n read c (d ∷ cs) octet fits e o some =
     ∙ sym (joined_twice read (octet ∷ []) (octets_from 0 (p + 1 + 1) cs))
     ∙ ap (λ r. joined read (then_octet p (d ∷ cs) r)) o
     ∙ ap (λ b. joined read (cond b (octets_from 0 (p + 1) (d ∷ cs)) (then_octet p (d ∷ cs) (octet_of p c (d ∷ cs))))) e
+
+-- a blank is passed over
+module _ (text : List ℕ) (p : ℕ) (here : p < length text) where
+  pub at_blank : true ≡ blank (get_or text p 0) → octets_from 0 p (drop p text) ≡ octets_from 0 (p + 1) (drop (p + 1) text)
+  at_blank e = at_drop_more (octets_from 0 p) text p 0 here ∙ ap (λ v. cond v (octets_from 0 (p + 1) (drop (p + 1) text)) (then_octet p (drop (p + 1) text) (octet_of p (get_or text p 0) (drop (p + 1) text)))) (sym e)
+
+-- a fault of the text is the answer
+pub faulty : (text : List ℕ) (f : HexFault) → octets_from 0 0 text ≡ Err f → Reads text (Err f)
+faulty text (NotHex p) e = e
+faulty text (OddDigit p) e = e
+faulty text NoMemory e = tt
