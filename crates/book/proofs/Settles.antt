@@ -11,19 +11,34 @@ use Rattle.side.specs.Meaning.{Meaning}
 use Rattle.side.specs.Steps.{After, written, row_fault, settled, Did}
 
 -- a leg that was found is there, and the record is its own
-found : {R : Type 0} (rs : List R) (l : ℕ) (d r : R) → Some r ≡ cond (ltb l (length rs)) (Some (get_or rs l d)) None → (l < length rs) × (r ≡ get_or rs l d)
+pub found : {R : Type 0} (rs : List R) (l : ℕ) (d r : R) → Some r ≡ cond (ltb l (length rs)) (Some (get_or rs l d)) None → (l < length rs) × (r ≡ get_or rs l d)
 found rs l d r e = at (ltb l (length rs)) refl e
   where
     at : (b : Bool) → ltb l (length rs) ≡ b → Some r ≡ cond b (Some (get_or rs l d)) None → (l < length rs) × (r ≡ get_or rs l d)
     at true t h = (ltb-true l (length rs) t, grind arith)
     at false t h = absurd (grind arith)
 
-missing : {R : Type 0} (rs : List R) (l : ℕ) (x : R) → None ≡ cond (ltb l (length rs)) (Some x) None → ltb l (length rs) ≡ false
+pub missing : {R : Type 0} (rs : List R) (l : ℕ) (x : R) → None ≡ cond (ltb l (length rs)) (Some x) None → ltb l (length rs) ≡ false
 missing rs l x e = at (ltb l (length rs)) refl e
   where
     at : (b : Bool) → ltb l (length rs) ≡ b → None ≡ cond b (Some x) None → ltb l (length rs) ≡ false
     at true t h = absurd (grind arith)
     at false t h = t
+
+-- with the leg there, its row decides; without it there is no row
+pub row_there : (l n : ℕ) (b : Bool) (s : System) (room : ℕ) → l < n → row_fault s room (ltb l n && b) ≡ row_fault s room b
+row_there l n b s room h = ap (λ t. row_fault s room (t && b)) (lt-ltb l n h)
+
+pub row_missing : (l n : ℕ) (b : Bool) (s : System) (room : ℕ) → ltb l n ≡ false → row_fault s room (ltb l n && b) ≡ row_fault s room false
+row_missing l n b s room h = ap (λ t. row_fault s room (t && b)) h
+
+-- a step that is refused, and one that is taken
+module _ {R : Type 0} (M : Meaning R) (rs : List R) (l : ℕ) (fault : Option Refusal) (r : R) (message buffer : List ℕ) where
+  pub balks : (e : Refusal) (after : List ℕ) → fault ≡ Some e → after ≡ buffer → Did (settled M rs l fault r message buffer) (Err e) rs after
+  balks e after f same = subst (λ o. Did (settled M rs l o r message buffer) (Err e) rs after) (sym f) (record { answered = refl; left = refl; wrote = same })
+
+  pub settles : (n : ℕ) (next : R) (rs' : List R) (after : List ℕ) → fault ≡ None → next ≡ r → rs' ≡ set rs l next → n ≡ length message → after ≡ written message buffer → Did (settled M rs l fault r message buffer) (Ok n) rs' after
+  settles n next rs' after f x y z w = subst (λ o. Did (settled M rs l o r message buffer) (Ok n) rs' after) (sym f) (record { answered = ap Ok z; left = y ∙ ap (set rs l) x; wrote = w })
 
 -- the refusal of what was not there
 lost : {R : Type 0} (o : Option R) (e f : Refusal) → Err e ≡ ok_or o f → (None ≡ o) × (e ≡ f)
@@ -77,13 +92,13 @@ module _ {R : Type 0} (M : Meaning R) (rs : List R) (a : Asked R) (buffer : List
     pub has : (r : R) → o ≡ Some r → a.leg < length rs
     has r f = (found rs a.leg M.blank r (sym f ∙ got)).0
 
-    pub balks : (r : R) (e : Refusal) (buffer' : List ℕ) → o ≡ Some r → (fault (a.row r) ≡ Some e) × (buffer' ≡ buffer) → Did step (Err e) rs buffer'
-    balks r e buffer' f x = subst (λ w. Did w (Err e) rs buffer') (ap (λ u. after u r) (sym x.0) ∙ there r (sym f ∙ got)) (record { answered = refl; left = refl; wrote = x.1 })
+    pub leg_balks : (r : R) (e : Refusal) (buffer' : List ℕ) → o ≡ Some r → (fault (a.row r) ≡ Some e) × (buffer' ≡ buffer) → Did step (Err e) rs buffer'
+    leg_balks r e buffer' f x = subst (λ w. Did w (Err e) rs buffer') (there r (sym f ∙ got)) (balks M rs a.leg (fault (a.row r)) (a.next r) (a.message r) buffer e buffer' x.0 x.1)
 
-    pub settles : (r q : R) (n : ℕ) (rs' : List R) (buffer' : List ℕ) → o ≡ Some r →
+    pub leg_settles : (r q : R) (n : ℕ) (rs' : List R) (buffer' : List ℕ) → o ≡ Some r →
         (fault (a.row r) ≡ None) × (q ≡ a.next r) × (n ≡ length (a.message r)) × (buffer' ≡ written (a.message r) buffer) → rs' ≡ set rs a.leg q → Did step (Ok n) rs' buffer'
-    settles r q n rs' buffer' f x y =
-        subst (λ w. Did w (Ok n) rs' buffer') (ap (λ u. after u r) (sym x.0) ∙ there r (sym f ∙ got)) (record { answered = ap Ok x.2; left = y ∙ ap (set rs a.leg) x.1; wrote = x.3 })
+    leg_settles r q n rs' buffer' f x y =
+        subst (λ w. Did w (Ok n) rs' buffer') (there r (sym f ∙ got)) (settles M rs a.leg (fault (a.row r)) (a.next r) (a.message r) buffer n q rs' buffer' x.0 x.1 y x.2 x.3)
 
     -- without the leg there is no row
     pub lacks : (e f : Refusal) (s : System) → Err e ≡ ok_or o f → Some f ≡ row_fault s (length buffer) false → s ≡ M.system → Did step (Err e) rs buffer

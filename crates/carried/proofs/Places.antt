@@ -38,7 +38,7 @@ module _ (rule : EndRule) where
   fault_within xs f e = subst (λ n. Inside n f) (omega arith) (faults xs 0 0 f e)
 
   module _ (t k : ℕ) where
-    places : (xs : List ℕ) (skip p : ℕ) → option_map (λ e. e.place) (item_in t (walk rule skip p xs)) ≡ Some k → k < p + length xs
+    pub places : (xs : List ℕ) (skip p : ℕ) → option_map (λ e. e.place) (item_in t (walk rule skip p xs)) ≡ Some k → k < p + length xs
     places [] skip p e = absurd (grind arith)
     places (x ∷ xs) (suc n) p e = let i = places xs n (p + 1) e in omega arith
     places (u ∷ xs) zero p e = at (begun rule u xs) (λ n z. places xs n (p + 1) z) e

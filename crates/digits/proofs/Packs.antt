@@ -1,8 +1,8 @@
 -- The steps of packing and unpacking, and that unpacking undoes packing.
 -- Rests on specs/Signals and on the steps of reading.
-use Rattle.std.proofs.Common.{◌≡◌, ℕ, zero, suc, ◌+◌, ◌-◌, ◌*◌, ◌/◌, ◌%◌, ◌<◌, Bool, true, false, if◌then◌else◌, ◌==◌, List, [], ◌∷◌, ◌++◌, map, length, get_or, take, Ok, Err, Result, sym, refl, ap, ◌∙◌, arith}
+use Rattle.std.proofs.Common.{◌≡◌, ℕ, zero, suc, ◌+◌, ◌-◌, ◌*◌, ◌/◌, ◌%◌, ◌<◌, ◌≤◌, Bool, true, false, cond, eqb, if◌then◌else◌, ◌==◌, List, [], ◌∷◌, ◌++◌, map, length, get_or, take, drop, set, Ok, Err, Result, sym, refl, ap, ◌∙◌, arith}
 use Rattle.std.proofs.lemmas.Grind.{common_steps}
-use Rattle.std.proofs.lemmas.List.{take_at, length-map, take-map, ext_get_or, get_or-map, append-nil}
+use Rattle.std.proofs.lemmas.List.{take_all, take_at, take_more_set, take_more, drop-set-lt, drop-drop, length-take-le, length-map, take-map, ext_get_or, get_or-take, get_or_append_left, get_or_at, get_or_past, get_or-map, append-nil}
 use Rattle.std.proofs.lemmas.List.Concat.{flat_map-append}
 use Rattle.std.proofs.lemmas.List.Folds.{flat_map-map}
 use Rattle.std.specs.List.{flat_map}
@@ -12,7 +12,7 @@ use Rattle.digits.specs.declared.types.DigitFault.TheVariants.{TooMany}
 use Rattle.digits.specs.declared.number.Digits.{Digits}
 use Rattle.digits.specs.Dialling.{dialled, Number, characters}
 use Rattle.digits.specs.Signals.{signals, digits_of, ended, packed, octets_for, odd_count, halves, half_at, signal_at, but_last, signals_in, without_end, unpacked, Halves, PackingIsUndone}
-use Rattle.digits.proofs.Steps.{Digit, reads_itself, length_characters}
+use Rattle.digits.proofs.Steps.{Digit, reads_itself, number_of, length_characters}
 
 -- the halves of octets
 
@@ -95,7 +95,7 @@ packed_at (s ∷ t ∷ rest) (suc n) =
     let b : suc (suc (2 * n)) + 1 ≡ suc (suc (2 * n + 1)) = omega arith in
     rw (a, b) (packed_at rest n)
 
-length_ended : (d : List ℕ) → length (ended d) ≡ length d + 1
+pub length_ended : (d : List ℕ) → length (ended d) ≡ length d + 1
 length_ended d = grind (arith, common_steps)
 
 pub length_packed_ended : (d : List ℕ) → length (packed (ended d)) ≡ octets_for (length d)
@@ -160,3 +160,101 @@ number_back d n =
 pub undoes_by : (r : Result (List ℕ) DigitFault) (odd : Bool) (os : List ℕ) → r ≡ unpacked odd os
     → (d : List ℕ) → Number d → os ≡ packed (ended d) → odd ≡ odd_count (length d + 1) → r ≡ Ok d
 undoes_by r odd os reads d n e o = reads ∙ ap (λ b. unpacked b os) o ∙ ap (unpacked (odd_count (length d + 1))) e ∙ number_back d n
+
+-- halves and signals by their place
+
+pub even_half : (os : List ℕ) (k : ℕ) → k % 2 ≡ 0 → get_or os (k / 2) 0 % 16 ≡ get_or (halves os) k 0
+even_half os k h = let e : 2 * (k / 2) ≡ k = omega arith in sym (low_at os (k / 2)) ∙ ap (λ n. get_or (halves os) n 0) e
+
+pub odd_half : (os : List ℕ) (k : ℕ) → (k % 2 ≡ 0 → ⊥) → get_or os (k / 2) 0 / 16 ≡ get_or (halves os) k 0
+odd_half os k h = let e : suc (2 * (k / 2)) ≡ k = omega arith in sym (high_at os (k / 2)) ∙ ap (λ n. get_or (halves os) n 0) e
+
+pub digit_signal : (d : List ℕ) (k : ℕ) → k < length d → get_or d k 0 - 48 ≡ get_or (ended d) k 0
+digit_signal d k h =
+    let l : k < length (signals d) = omega (arith, length-map d (λ c. c - 48)) in
+    sym (get_or_append_left (signals d) (15 ∷ []) 0 k l ∙ get_or-map (λ c. c - 48) d k 0 0 h)
+
+pub end_signal : (d : List ℕ) (k : ℕ) → k ≡ length d → 15 ≡ get_or (ended d) k 0
+end_signal d k e = sym (get_or_at (signals d) 15 [] 0 k (length-map d (λ c. c - 48) ∙ sym e))
+
+pub spare_signal : (d : List ℕ) (k : ℕ) → length d < k → 0 ≡ get_or (ended d) k 0
+spare_signal d k h = sym (get_or_past (ended d) k 0 (omega (arith, length_ended d)))
+
+-- a step of a loop that copies the front of a list
+
+pub copied_on : (all out : List ℕ) (n v : ℕ) → n < length all → n < length out → v ≡ get_or all n 0 → take n out ≡ take n all → take (n + 1) (set out n v) ≡ take (n + 1) all
+copied_on all out n v h room e same =
+    take_more_set out n v room ∙ ap (λ l. l ++ (v ∷ [])) same ∙ ap (λ x. take n all ++ (x ∷ [])) e ∙ sym (take_more all n 0 h)
+
+pub left_on : (out start : List ℕ) (n v : ℕ) → drop n out ≡ drop n start → drop (n + 1) (set out n v) ≡ drop (n + 1) start
+left_on out start n v same = drop-set-lt (n + 1) out n v (omega arith) ∙ sym (drop-drop 1 n out) ∙ ap (drop 1) same ∙ drop-drop 1 n start
+
+-- what octets hold
+
+pub length_signals_in : (odd : Bool) (os : List ℕ) → length (signals_in odd os) ≡ cond odd (2 * length os - 1) (2 * length os)
+length_signals_in true os = length-take-le (length (halves os) - 1) (halves os) (omega arith) ∙ ap (λ n. n - 1) (length_halves os)
+length_signals_in false os = length_halves os
+
+pub signal_in : (odd : Bool) (os : List ℕ) (k : ℕ) → k < length (signals_in odd os) → get_or (signals_in odd os) k 0 ≡ get_or (halves os) k 0
+signal_in true os k h =
+    let l : k < length (halves os) - 1 = omega (arith, length-take-le (length (halves os) - 1) (halves os) (omega arith)) in get_or-take (length (halves os) - 1) (halves os) k 0 l
+signal_in false os k h = refl
+
+length_but_last : (xs : List ℕ) → length (but_last xs) ≡ length xs - 1
+length_but_last xs = length-take-le (length xs - 1) xs (omega arith)
+
+pub length_without : (ss : List ℕ) (b : Bool) → b ≡ eqb (get_or ss (length ss - 1) 0) 15 → length (without_end ss) ≡ cond b (length ss - 1) (length ss)
+length_without ss b e = sym (ap (λ v. length (cond v (but_last ss) ss)) e) ∙ elim b as (λ v. length (cond v (but_last ss) ss) ≡ cond v (length ss - 1) (length ss)) [ true ↦ length_but_last ss | false ↦ refl ]
+
+pub without_least : (ss : List ℕ) → length ss - 1 ≤ length (without_end ss)
+without_least ss = let e = length_without ss (eqb (get_or ss (length ss - 1) 0) 15) refl in grind (arith, nat_tests)
+
+pub without_most : (ss : List ℕ) → length (without_end ss) ≤ length ss
+without_most ss = let e = length_without ss (eqb (get_or ss (length ss - 1) 0) 15) refl in grind (arith, nat_tests)
+
+-- the count of signals, by the last of them
+pub counted : (odd : Bool) (os : List ℕ) (count h : ℕ) (b : Bool) → count ≡ length (signals_in odd os) → 1 ≤ count → h ≡ get_or (halves os) (count - 1) 0 → b ≡ eqb h 15
+    → cond b (count - 1) count ≡ length (without_end (signals_in odd os))
+counted odd os count h b e low is t =
+    let l : length (signals_in odd os) - 1 < length (signals_in odd os) = omega arith in
+    let same : h ≡ get_or (signals_in odd os) (length (signals_in odd os) - 1) 0 = is ∙ ap (λ n. get_or (halves os) (n - 1) 0) e ∙ sym (signal_in odd os (length (signals_in odd os) - 1) l) in
+    ap (λ n. cond b (n - 1) n) e ∙ sym (length_without (signals_in odd os) b (t ∙ ap (λ x. eqb x 15) same))
+
+without_at : (ss : List ℕ) (k : ℕ) → k < length (without_end ss) → get_or (without_end ss) k 0 ≡ get_or ss k 0
+without_at ss k h =
+    elim (eqb (get_or ss (length ss - 1) 0) 15) as (λ v. k < length (cond v (but_last ss) ss) → get_or (cond v (but_last ss) ss) k 0 ≡ get_or ss k 0) [
+      | true ↦ λ l. let m : k < length ss - 1 = omega (arith, length_but_last ss) in get_or-take (length ss - 1) ss k 0 m
+      | false ↦ λ l. refl
+    ] h
+
+pub digit_at : (odd : Bool) (os : List ℕ) (k s : ℕ) → k < length (without_end (signals_in odd os)) → s ≡ get_or (halves os) k 0 → s + 48 ≡ get_or (digits_of (without_end (signals_in odd os))) k 0
+digit_at odd os k s h e =
+    let l : k < length (signals_in odd os) = omega (arith, without_most (signals_in odd os)) in
+    ap (λ x. x + 48) (e ∙ sym (signal_in odd os k l) ∙ sym (without_at (signals_in odd os) k h)) ∙ sym (get_or-map (λ x. x + 48) (without_end (signals_in odd os)) k 0 0 h)
+
+-- what a value holds comes back from the octets that it is packed into
+pub digits_come_back : (d : Digits) → unpacked (odd_count (length (characters d) + 1)) (packed (ended (characters d))) ≡ Ok (characters d)
+digits_come_back d = number_back (characters d) (number_of d)
+
+-- no octets hold no signals
+pub none_in : (odd : Bool) (os : List ℕ) → true ≡ eqb (length os) 0 → 0 ≡ length (without_end (signals_in odd os))
+none_in odd [] e = elim odd as (λ b. 0 ≡ length (without_end (signals_in b []))) [ true ↦ refl | false ↦ refl ]
+none_in odd (b ∷ bs) e = let z : ◌≡◌ {A = ℕ} 0 1 = grind (arith, nat_tests) in omega arith
+
+-- the end of the packing loop
+pub all_packed : (all out start : List ℕ) (n m : ℕ) → n ≡ length all → n ≤ m → m ≤ n → take m out ≡ take m all → drop m out ≡ drop m start
+    → (n ≡ length all) × (take n out ≡ all) × (drop n out ≡ drop n start)
+all_packed all out start n m e low high front rest =
+    let same : n ≡ m = omega arith in (
+      e,
+      ap (λ k. take k out) same ∙ front ∙ take_all m all (omega arith),
+      ap (λ k. drop k out) same ∙ rest ∙ ap (λ k. drop k start) (sym same),
+    )
+
+-- the end of the unpacking loop: what was written is what is read
+pub all_unpacked : (odd : Bool) (os text : List ℕ) (count k : ℕ) → count ≡ length (without_end (signals_in odd os)) → count ≤ k → k ≤ count
+    → take k text ≡ take k (digits_of (without_end (signals_in odd os))) → dialled (take count text) ≡ unpacked odd os
+all_unpacked odd os text count k e low high same =
+    let eq : count ≡ k = omega arith in
+    let long : length (digits_of (without_end (signals_in odd os))) ≤ k = omega (arith, length-map (without_end (signals_in odd os)) (λ s. s + 48)) in
+    ap dialled (ap (λ n. take n text) eq ∙ same ∙ take_all k (digits_of (without_end (signals_in odd os))) long)

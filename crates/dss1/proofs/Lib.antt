@@ -1,1 +1,2 @@
+pub mod Shorts
 pub mod Writings

@@ -81,3 +81,7 @@ pub from_front : (octets before after : List ℕ) (n : ℕ) → Adds octets 0 be
 from_front octets before after n p =
     let k : n ≡ length octets = omega (arith, p.count) in
     sym (take-append-drop n after) ∙ (λ i. p.front i ++ p.rest i) ∙ ap (λ m. octets ++ drop m before) k
+
+-- and how long it is
+pub as_long : (octets before after : List ℕ) (n : ℕ) → Adds octets 0 before n after → n ≡ length octets
+as_long octets before after n p = omega (arith, p.count)

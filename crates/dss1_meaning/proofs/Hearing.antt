@@ -34,9 +34,13 @@ number_good (a ∷ digits) e =
     (n.0, (n.1.0, n.1.1, text_of_number digits n.1.0 n.1.2))
 
 -- the cause of a message that ends a call
-pub cause_within : (o : Option (ℕ × ℕ)) → ((c : ℕ × ℕ) → o ≡ Some c → (c.0 < 16) × (c.1 < 128)) → ((cause_or o).0 < 16) × ((cause_or o).1 < 128)
-cause_within None h = (lit< tt, lit< tt)
-cause_within (Some c) h = h c refl
+pub cause_or_within : (o : Option (ℕ × ℕ)) → ((c : ℕ × ℕ) → o ≡ Some c → (c.0 < 16) × (c.1 < 128)) → ((cause_or o).0 < 16) × ((cause_or o).1 < 128)
+cause_or_within None h = (lit< tt, lit< tt)
+cause_or_within (Some c) h = h c refl
+
+-- a cause as it is read has a location below 16 and a value below 128
+pub cause_within : (o : List ℕ) → (l : ℕ) × ((v : ℕ) × (Some (cause_or (cause_in o)) ≡ Some (l, v)) × (l < 16) × (v < 128))
+cause_within o = let h = cause_or_within (cause_in o) (cause_in_range o) in ((cause_or (cause_in o)).0, ((cause_or (cause_in o)).1, refl, h.0, h.1))
 
 -- contents by kind
 pub setup_within : (b : Body) → setup_bad b ≡ None → Within Setup (setup_says b)
@@ -55,7 +59,7 @@ pub progress_within : (p : ℕ × ℕ) → Within Progress (progress_says (Some 
 progress_within p = progress_fits (progress_says (Some p)) p refl refl
 
 pub clear_within : (b : Body) → fault_of b.parts ≡ None → Within Clear (clear_says b)
-clear_within b e = clear_fits (clear_says b) (cause_or (cause_in b.cause)) (fault_none b.parts e) refl (cause_within (cause_in b.cause) (cause_in_range b.cause))
+clear_within b e = clear_fits (clear_says b) (cause_or (cause_in b.cause)) (fault_none b.parts e) refl (cause_or_within (cause_in b.cause) (cause_in_range b.cause))
 
 -- what is said of a message that is read
 abbrev pub SaidWithin : Said → Type 0

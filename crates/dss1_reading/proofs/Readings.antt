@@ -1,27 +1,31 @@
 -- What the readers of a message make of its parts. Assumes nothing.
-use Rattle.std.proofs.Common.{◌≡◌, ℕ, ◌-◌, ◌<◌, true, false, ◌&&◌, eqb, List, length, get_or, take, drop, is_some, is_ok, IfOk, MatchResult, MatchOption, Some, None, Ok, Err, Option, Result, sym, refl, ap, subst, ◌∙◌, arith}
+use Rattle.std.proofs.Common.{◌≡◌, ℕ, ◌-◌, ◌/◌, ◌%◌, ◌<◌, ◌≤◌, Bool, true, false, cond, ◌&&◌, eqb, ltb, List, [], ◌∷◌, length, get_or, take, drop, is_some, is_ok, IfOk, MatchResult, MatchOption, Some, None, Ok, Err, Option, Result, sym, refl, ap, subst, ◌∙◌, arith}
 use Rattle.std.proofs.lemmas.List.{take_rest}
-use Rattle.std.proofs.lemmas.Bool.{cond-true, lt-ltb, eqb-false}
+use Rattle.std.proofs.lemmas.Bool.{cond-true, cond-false, lt-ltb, eqb-false}
 use Rattle.std.proofs.lemmas.Result.{IfOk-at_ok}
 use Rattle.std.specs.Option.{option_map, ok_or}
 use Rattle.std.specs.Result.{result_ok}
 use Rattle.values.specs.declared.types.BearerFault.{BearerFault}
 use Rattle.values.specs.Bearers.{bearer_in}
+use Rattle.values.specs.declared.types.NumberType.{NumberType}
+use Rattle.values.specs.Numbers.{type_of}
+use Rattle.digits.specs.declared.types.DigitFault.{DigitFault}
+use Rattle.digits.specs.Dialling.{dialled}
 use Rattle.elements.specs.declared.types.ListFault.{ListFault}
 use Rattle.elements.specs.Elements.{checked}
 use Rattle.entries.specs.Codings.{dss1}
 use Rattle.side.specs.declared.kinds.Kind.{Kind}
 use Rattle.side.specs.declared.kinds.Kind.TheVariants as kind
 use Rattle.side.specs.declared.kinds.Refusal.{Refusal}
-use Rattle.side.specs.declared.kinds.Reason.TheVariants.{BadValue}
+use Rattle.side.specs.declared.kinds.Reason.TheVariants.{BadValue, NoSuchLeg}
 use Rattle.side.specs.declared.contents.Bearer.{Bearer}
 use Rattle.side.specs.declared.contents.Number.{Number}
 use Rattle.side.specs.declared.parts.Parts.{Parts}
 use Rattle.side.specs.Contents as side
 use Rattle.side.specs.Signals.{Contents, bearer_of, noted}
 use Rattle.side.proofs.Limited.{bearer_served}
-use Rattle.carried.specs.Carried.{parts_of, bad_at, both, refused}
-use Rattle.carried.specs.Messages.{Said, number_of}
+use Rattle.carried.specs.Carried.{parts_of, bad_at, sooner, both, refused}
+use Rattle.carried.specs.Messages.{Said, numbered, number_of}
 use Rattle.carried.proofs.Refusals.{both_refused_at, both_ok}
 use Rattle.dss1_meaning.specs.declared.types.MessageType.{MessageType}
 use Rattle.carried.specs.declared.UnknownOctet.{UnknownOctet}
@@ -104,3 +108,36 @@ module _ (n : ℕ) (o : List ℕ) (t : MessageType) (h : true ≡ headed o) (e :
         by : (c : Result ℕ ListFault) → None ≡ list_fault c → heard_as exchange o (body_read t (body_in (drop 4 o))) ≡ list_read exchange o t c
         by (Ok m) z = refl
         by (Err f) z = absurd (grind arith)
+
+-- a called number from its type and what its digits are
+pub number_read : (xs : List ℕ) (t : NumberType) (r : Result (List ℕ) DigitFault) → 1 ≤ length xs → Some t ≡ type_of (get_or xs 0 0 / 16 % 8) → r ≡ dialled (take (length xs - 1) (drop 1 xs)) →
+    numbered (Some t) r ≡ number_in xs
+number_read [] t r h e d = absurd (omega arith)
+number_read (a ∷ xs) t r h e d = let k : r ≡ dialled xs = d ∙ ap dialled (take_rest (a ∷ xs) 1) in λ i. numbered (e i) (k i)
+
+-- the first of three places, from those that were found
+pub first_place : {a b c x y z w o : Option ℕ} → o ≡ sooner x w → w ≡ sooner y z → x ≡ a → y ≡ b → z ≡ c → o ≡ sooner a (sooner b c)
+first_place e f p q r = e ∙ (λ i. sooner (p i) ((f ∙ (λ j. sooner (q j) (r j))) i))
+
+-- a setup with a value outside its rule
+pub setup_bad_refused : (b : Body) (p : ℕ) → 0 < length b.bearer → 0 < length b.number → Some p ≡ setup_bad b → Err (refusal BadValue p) ≡ setup_read b
+setup_bad_refused b p h k e =
+    let f : (ltb 0 (length b.bearer) && ltb 0 (length b.number)) ≡ true = λ i. lt-ltb 0 (length b.bearer) h i && lt-ltb 0 (length b.number) k i in
+    sym (cond-true _ _ _ f ∙ ap (λ o. judged o kind.Setup (setup_says b)) (sym e))
+
+-- what a leg that was looked for and not found says of the reference
+pub leg_missing : (b : Bool) (x : ℕ) → None ≡ cond b (Some x) None → b ≡ false
+leg_missing b x e = grind arith
+
+-- a message whose reference names no leg, or whose list is broken
+module _ (n : ℕ) (o : List ℕ) (t : MessageType) (h : true ≡ headed o) (e : Some t ≡ type_in (get_or o 3 0)) where
+  pub no_leg : named exchange n t (get_or o 2 0) ≡ false → Err (refusal NoSuchLeg 2) ≡ reads n o
+  no_leg f = sym (cond-false _ _ _ f) ∙ typed n o t h e
+
+  module _ (f : named exchange n t (get_or o 2 0) ≡ true) where
+    pub list_refused : (r : Refusal) → Some r ≡ list_fault (checked dss1 (take (length o - 4) (drop 4 o))) → Err r ≡ reads n o
+    list_refused r g = by (checked dss1 (drop 4 o)) (g ∙ ap list_fault (whole n o t h e f)) ∙ listed n o t h e f
+      where
+        by : (c : Result ℕ ListFault) → Some r ≡ list_fault c → Err r ≡ list_read exchange o t c
+        by (Ok m) z = absurd (grind arith)
+        by (Err f) z = grind arith

@@ -1,10 +1,12 @@
 -- How a walk over a list goes on from place to place. Assumes nothing.
-use Rattle.std.proofs.Common.{◌≡◌, ℕ, zero, suc, ◌+◌, ◌<◌, ◌≤◌, List, [], ◌∷◌, length, get_or, take, drop, sym, ap, ◌∙◌, arith}
-use Rattle.std.proofs.lemmas.List.{drop_more, drop-drop, length-drop}
+use Rattle.std.proofs.Common.{◌≡◌, ℕ, zero, suc, ◌+◌, ◌<◌, ◌≤◌, ◌⊎◌, List, [], ◌∷◌, length, get_or, take, drop, Some, sym, ap, ◌∙◌, arith}
+use Rattle.std.proofs.lemmas.List.{drop_more, drop-drop, drop_all, length-take, length-drop}
+use Rattle.std.proofs.lemmas.Bool.{cond-true, eq-eqb, lt-ltb}
+use Rattle.std.proofs.lemmas.Bool.Decides.{nat_tests}
 use Rattle.elements.specs.declared.types.EndRule.{EndRule}
 use Rattle.elements.specs.declared.types.Seen.{Seen}
 use Rattle.elements.specs.declared.types.Seen.TheVariants.{Nothing, End, Single, Element, Broken}
-use Rattle.elements.specs.Elements.{begun, seen, ended, ran_out, broke_off, Walk, more, stop, walk}
+use Rattle.elements.specs.Elements.{begun, seen, ended, ran_out, broke_off, Walk, more, stop, walk, item_in}
 
 pub skipped : (rule : EndRule) (k p : ℕ) (xs : List ℕ) → k ≤ length xs → walk rule k p xs ≡ walk rule 0 (p + k) (drop k xs)
 skipped rule zero p [] h = ap (λ q. stop (ran_out q)) (omega arith)
@@ -35,3 +37,20 @@ module _ (rule : EndRule) (xs : List ℕ) (p : ℕ) (h : p < length xs) where
       skipped rule (n + 1) (p + 1) (drop (p + 1) xs) (omega (arith, length-drop (p + 1) xs))
       ∙ ap (walk rule 0 (p + 1 + (n + 1))) (drop-drop (n + 1) (p + 1) xs)
       ∙ ap (λ q. walk rule 0 q (drop q xs)) (omega arith)
+
+  -- a function of the walk, at what is seen
+  pub turned : {X : Type 0} (F : Walk → X) (v : X) (s : Seen) → s ≡ seen rule (drop p xs) → F (walk rule 0 p (drop p xs)) ≡ v → F (onward rule p (get_or xs p 0) (drop (p + 1) xs) s) ≡ v
+  turned F v s e inv = ap F (sym (goes s e)) ∙ inv
+
+module _ (w p t n : ℕ) (xs : List ℕ) (rest : Walk) (fits : p + 2 + n ≤ length xs) where
+  pub takes : t ≡ w → 0 < n → item_in w (more (record { place = p; tag = t; contents = take n (drop 1 (drop (p + 1) xs)) }) rest) ≡ Some (record { place = p; tag = w; contents = take n (drop (p + 2) xs) })
+  takes e h =
+      let k : 0 < length (take n (drop 1 (drop (p + 1) xs))) = omega (arith, length-take n (drop 1 (drop (p + 1) xs)), length-drop 1 (drop (p + 1) xs), length-drop (p + 1) xs) in
+      let d : drop 1 (drop (p + 1) xs) ≡ drop (p + 2) xs = drop-drop 1 (p + 1) xs ∙ ap (λ q. drop q xs) (omega arith) in
+      cond-true _ _ _ (eq-eqb _ _ e) ∙ cond-true _ _ _ (lt-ltb _ _ k) ∙ (λ i. Some (record { place = p; tag = e i; contents = take n (d i) }))
+
+  pub passes : ((t ≡ w) × (n ≤ 0)) ⊎ (t ≡ w → ⊥) → item_in w (more (record { place = p; tag = t; contents = take n (drop 1 (drop (p + 1) xs)) }) rest) ≡ item_in w rest
+  passes either = grind (arith, nat_tests, length-take, length-drop)
+
+pub at_end : {X : Type 0} (F : Walk → X) (v : X) (rule : EndRule) (p : ℕ) (xs : List ℕ) → length xs ≤ p → F (walk rule 0 p (drop p xs)) ≡ v → F (stop (ran_out p)) ≡ v
+at_end F v rule p xs h inv = ap (λ l. F (walk rule 0 p l)) (sym (drop_all p xs h)) ∙ inv

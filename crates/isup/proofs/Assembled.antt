@@ -1,5 +1,8 @@
 -- The messages as they are put together, and as the tables have them. Assumes nothing.
-use Rattle.std.proofs.Common.{◌≡◌, ℕ, suc, ◌+◌, ◌%◌, ◌<◌, List, [], ◌∷◌, ◌++◌, length, take, Option, sym, ap, ◌∙◌, append-nil, arith}
+use Rattle.std.proofs.Common.{◌≡◌, ℕ, suc, ◌+◌, ◌%◌, ◌<◌, ◌≤◌, List, [], ◌∷◌, ◌++◌, length, take, Err, Option, sym, ap, ◌∙◌, append-nil, arith}
+use Rattle.digits.specs.declared.types.PackFault.{PackFault}
+use Rattle.digits.specs.declared.types.PackFault.TheVariants.{NoRoom}
+use Rattle.digits.specs.Signals.{Written}
 use Rattle.entries.specs.Entries.{listed}
 use Rattle.side.specs.declared.parts.Parts.{Parts}
 use Rattle.side.specs.Contents.{parts_of}
@@ -9,12 +12,16 @@ use Rattle.isup_meaning.specs.declared.types.MessageType.TheVariants as type
 use Rattle.isup_meaning.specs.Writing.{head, but_in_band, optional_table, pointer_to, tail, field_and_list}
 use Rattle.isup.specs.Writes.{optional_of, message_of, with_length}
 
-pub number_octets_are : (n x y : ℕ) (out p : List ℕ) → x ≡ y → n ≡ length p → take n out ≡ p → take (3 + n) ((2 + n) ∷ x ∷ 16 ∷ (out ++ [])) ≡ with_length (y ∷ 16 ∷ p)
-number_octets_are n x y out p ex en e =
-    let k : 3 + n ≡ suc (suc (suc n)) = omega arith in
-    let f : 2 + n ≡ length (y ∷ 16 ∷ p) = omega arith in
-    let g : take n (out ++ []) ≡ p = ap (take n) (append-nil out) ∙ e in
-    ap (λ k. take k ((2 + n) ∷ x ∷ 16 ∷ (out ++ []))) k ∙ (λ i. f i ∷ ex i ∷ 16 ∷ g i)
+-- there is room for the signals of every number
+pub no_room : (octets before after : List ℕ) (f : PackFault) → Written octets before (Err f) after → length octets ≤ length before → ⊥
+no_room octets before after NoRoom w h = let k = w.0 in omega arith
+
+pub number_octets_are : (s n x y : ℕ) (out p : List ℕ) → x ≡ y → s ≡ length p → n ≡ length p → take n out ≡ p → take (3 + s) ((2 + s) ∷ x ∷ 16 ∷ (out ++ [])) ≡ with_length (y ∷ 16 ∷ p)
+number_octets_are s n x y out p ex es en e =
+    let k : 3 + s ≡ suc (suc (suc s)) = omega arith in
+    let f : 2 + s ≡ length (y ∷ 16 ∷ p) = omega arith in
+    let g : take s (out ++ []) ≡ p = ap (take s) (append-nil out) ∙ ap (λ k. take k out) (es ∙ sym en) ∙ e in
+    ap (λ k. take k ((2 + s) ∷ x ∷ 16 ∷ (out ++ []))) k ∙ (λ i. f i ∷ ex i ∷ 16 ∷ g i)
 
 -- the list of values that the code holds is the table's
 pub optional_is : (g : List ℕ) (p : Option (ℕ × ℕ)) (q : Parts) (bearer : List ℕ) → g ≡ progress_octets (but_in_band p) → listed (optional_of g q bearer) ≡ listed (optional_table p (parts_of q) bearer)

@@ -88,13 +88,13 @@ module _ (p : Parts) (g a b c d : Bor (List ℕ)) (ig ia ib ic id : Item) (eg : 
   five_are : entries_of five_rows ≡ access_of progress p
   five_are i = record { tag = 0x1E; contents = ng i } ∷ record { tag = 0x6D; contents = na i } ∷ record { tag = 0x71; contents = nb i } ∷ record { tag = 0x7C; contents = nc i } ∷ record { tag = 0x7D; contents = nd i } ∷ []
 
-  nest_never : (last at size : ℕ) (e : WriteFault) → length progress ≤ 2 → last ≤ 3 → at + 206 ≤ size → nest_fault isup dss1 last at 3 five_items size ≡ Some e → ⊥
+  pub nest_never : (last at size : ℕ) (e : WriteFault) → length progress ≤ 2 → last ≤ 3 → at + 206 ≤ size → nest_fault isup dss1 last at 3 five_items size ≡ Some e → ⊥
   nest_never last at size e few l room f =
       let n : length (listed (entries_of five_rows) ++ []) ≤ 204 =
       omega (arith, ap length (append-nil (listed (entries_of five_rows))), ap (λ t. length (listed t)) five_are, access_length progress p few) in
       rows.nest_not_refused isup dss1 five_items five_rows five_same 3 last at size e (subst (Ascending dss1 0) (sym five_are) (access_ascends progress p few)) refl refl l (omega arith) (omega arith) f
 
-  nest_writes : (at end : ℕ) (before after : List ℕ) → false ≡ no_access progress p → Adds (element 3 (written five_items ++ [])) at before end after →
+  pub nest_writes : (at end : ℕ) (before after : List ℕ) → false ≡ no_access progress p → Adds (element 3 (written five_items ++ [])) at before end after →
       Adds (entry_octets (record { tag = 3; contents = listed (access_of progress p) })) at before end after
   nest_writes at end before after f q =
       subst (λ o. Adds o at before end after) (access_octets progress p (entries_of five_rows) five_are f) (rows.nest_adds isup dss1 five_items five_rows five_same 3 at end before after q)
@@ -108,11 +108,11 @@ module _ (p : Parts) (g a b c d : Bor (List ℕ)) (ig ia ib ic id : Item) (eg : 
       (λ x q. (moved ea refl (nest_writes at (next x) before after f q.0.adds), omega (arith, q.1)))
       (λ e q. let never : at + 206 ≤ length before → ⊥ = λ h. nest_never last at (length before) e few (omega arith) h q.because in omega arith)
 
-entry_light : (t : ℕ) (l : List ℕ) → length (entry_octets (record { tag = t; contents = l })) ≤ length l + 2
+pub entry_light : (t : ℕ) (l : List ℕ) → length (entry_octets (record { tag = t; contents = l })) ≤ length l + 2
 entry_light t l = grind (arith, nat_tests)
 
 -- the whole list, step by step
-list_writes : (progress : List ℕ) (p : Parts) (bearer : List ℕ) {at at' m end : ℕ} {x y z : List ℕ} → at' ≡ at →
+pub list_writes : (progress : List ℕ) (p : Parts) (bearer : List ℕ) {at at' m end : ℕ} {x y z : List ℕ} → at' ≡ at →
     Adds (entry_octets (record { tag = 3; contents = listed (access_of progress p) })) at' x m y → Adds (listed (behind_of p bearer) ++ (0 ∷ [])) m y end z → Adds (listed (optional_of progress p bearer) ++ (0 ∷ [])) at x end z
 list_writes progress p bearer {at} {at'} {m} {end} {x} {y} {z} e q r =
     subst (λ o. Adds o at x end z) (sym (append_assoc (entry_octets (record { tag = 3; contents = listed (access_of progress p) })) (listed (behind_of p bearer)) (0 ∷ [])))
@@ -138,13 +138,13 @@ module _ (p : Parts) (b u : Bor (List ℕ)) (ib iu : Item) (eb : ib ≡ entry_it
   behind_length : length (listed (behind_of p b.now) ++ (0 ∷ [])) ≡ weight (length b.now) + (weight (length (user_of p)) + 0) + 1
   behind_length = length-append (listed (behind_of p b.now)) (0 ∷ []) ∙ ap (λ n. n + 1) (listed_length (behind_of p b.now))
 
-  close_never : (last at size : ℕ) (e : WriteFault) → length b.now ≤ 11 → last ≤ 3 → at + (14 + cost (length (user_of p))) ≤ size → table_fault isup last at (ib ∷ iu ∷ []) size ≡ Some e → ⊥
+  pub close_never : (last at size : ℕ) (e : WriteFault) → length b.now ≤ 11 → last ≤ 3 → at + (14 + cost (length (user_of p))) ≤ size → table_fault isup last at (ib ∷ iu ∷ []) size ≡ Some e → ⊥
   close_never last at size e few l room f =
       let n : length (listed (entries_of two_rows) ++ (0 ∷ [])) ≤ 14 + cost (length (user_of p)) =
       omega (arith, ap (λ t. length (listed t ++ (0 ∷ []))) two_are, behind_length, light (length b.now)) in
       rows.not_refused isup (ib ∷ iu ∷ []) two_rows two_same last 3 at size e l (subst (Ascending isup 3) (sym two_are) (behind_ascends few)) (omega arith) f
 
-  close_writes : (at end : ℕ) (before after : List ℕ) → Adds (written (ib ∷ iu ∷ []) ++ (0 ∷ [])) at before end after → Adds (listed (behind_of p b.now) ++ (0 ∷ [])) at before end after
+  pub close_writes : (at end : ℕ) (before after : List ℕ) → Adds (written (ib ∷ iu ∷ []) ++ (0 ∷ [])) at before end after → Adds (listed (behind_of p b.now) ++ (0 ∷ [])) at before end after
   close_writes at end before after q =
       subst (λ t. Adds (listed t ++ (0 ∷ [])) at before end after) two_are (rows.adds isup (ib ∷ iu ∷ []) two_rows two_same at end before after q)
 

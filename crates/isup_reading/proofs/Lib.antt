@@ -1,3 +1,4 @@
 pub mod Within
 pub mod Numbers
 pub mod Setups
+pub mod Wholes

@@ -1,5 +1,6 @@
 -- A list is taken apart element by element, as far as it stops. Assumes nothing.
-use Rattle.std.proofs.Common.{◌≡◌, ℕ, ◌+◌, Bool, true, cond, List, [], ◌∷◌, ◌++◌, take, drop, Some, None, Option, Result, sym, refl, ap, ◌∙◌, arith, Bor}
+use Rattle.std.proofs.Common.{◌≡◌, ℕ, suc, ◌+◌, ◌-◌, ◌<◌, ◌≤◌, Bool, true, cond, ltb, List, [], ◌∷◌, ◌++◌, length, get_or, take, drop, Some, None, Ok, Option, Result, sym, refl, ap, ◌∙◌, arith, length-drop, Bor}
+use Rattle.std.proofs.lemmas.List.{take_more, drop_more, get_or-drop, length-take-le}
 use Rattle.std.proofs.Math.Seq.{take-add}
 use Rattle.std.proofs.lemmas.Bool.Decides.{nat_tests}
 use Rattle.elements.specs.declared.types.EndRule.{EndRule}
@@ -10,9 +11,10 @@ use Rattle.elements.specs.declared.types.Seen.TheVariants.{Nothing, End, Single,
 use Rattle.elements.specs.Elements.{is_tag, ends_list, stands_alone, begun, seen, verdict, walk, ran_out_at, checked}
 use Rattle.elements.specs.Places as read
 use Rattle.elements.specs.Places.{size_of, walk_from, StandsAt, Stops}
-use Rattle.elements.proofs.Steps.{onward}
+use Rattle.elements.proofs.Steps.{here, onward, turned}
 use Rattle.writer.specs.declared.types.Item.{Item}
-use Rattle.writer.specs.Written.{ending}
+use Rattle.writer.specs.declared.types.Item.TheVariants as item
+use Rattle.writer.specs.Written.{element, ending}
 use Rattle.writer.specs.Items.{octets_of, written}
 use Rattle.writer.specs.Entries.{entry_of}
 use Rattle.writer.proofs.Tables.{written_push}
@@ -67,4 +69,37 @@ module _ (rule : EndRule) (list : List ℕ) (p : ℕ) (items : List Item) (e : w
             ∙ (λ i. e i ++ s.2 i)
             ∙ sym (take-add p s.0 list)
             ∙ ap (λ k. take k list) (sym (ap reach f ∙ s.1));
+      }
+
+-- a list is taken apart octet by octet
+
+-- the length that is seen is the octet after the tag
+length_seen : (a b : Bool) (m n k : ℕ) → Element n ≡ cond a End (cond b Single (cond (ltb m k) (Element m) Broken)) → n ≡ m
+length_seen a b m n k e = grind (arith, nat_tests)
+
+module _ (rule : EndRule) (list : List ℕ) (p : ℕ) (h : p < length list) (items : List Item) (e : written items ≡ take p list) where
+  pub single_more : written (items ++ item.Single (get_or list p 0) ∷ []) ≡ take (p + 1) list
+  single_more = written_push items (item.Single (get_or list p 0)) ∙ ap (λ l. l ++ (get_or list p 0 ∷ [])) e ∙ sym (take_more list p 0 h)
+
+  pub element_more : (n : ℕ) → p + 2 + n ≤ length list → Element n ≡ seen rule (drop p list) → (r : Bor (List ℕ)) → r.now ≡ take (p + 2 + n - (p + 2)) (drop (p + 2) list) → written (items ++ item.Element (get_or list p 0) r ∷ []) ≡ take (p + (2 + n)) list
+  element_more n fits s r cs =
+      let t : ℕ = get_or list p 0 in
+      let m : ℕ = get_or list (p + 1) 0 in
+      let two : drop p list ≡ t ∷ m ∷ drop (p + 2) list = drop_more list p 0 h ∙ ap (λ l. t ∷ l) (drop_more list (p + 1) 0 (omega arith) ∙ ap (λ k. m ∷ drop k list) (omega arith)) in
+      let first : get_or (drop (p + 1) list) 0 0 ≡ m = get_or-drop (p + 1) list 0 0 ∙ ap (λ k. get_or list k 0) (omega arith) in
+      let long : n ≡ m = length_seen (ends_list rule t) (stands_alone rule t) _ n _ (s ∙ here rule list p h) ∙ first in
+      let body : r.now ≡ take n (drop (p + 2) list) = cs ∙ ap (λ k. take k (drop (p + 2) list)) (omega arith) in
+      let count : length r.now ≡ m = ap length body ∙ length-take-le n (drop (p + 2) list) (omega (arith, length-drop (p + 2) list)) ∙ long in
+      let k : 2 + n ≡ suc (suc n) = omega arith in
+      written_push items (item.Element t r) ∙ ap (λ l. l ++ element t r.now) e
+      ∙ ap (λ l. take p list ++ l) ((λ i. t ∷ count i ∷ body i) ∙ sym (ap (λ l. take (2 + n) l) two ∙ ap (λ j. take j (t ∷ m ∷ drop (p + 2) list)) k))
+      ∙ sym (take-add p (2 + n) list)
+
+  pub end_ends : End ≡ seen rule (drop p list) → verdict rule (walk rule 0 p (drop p list)) ≡ verdict rule (walk rule 0 0 list) → TakenApart rule list items (Ok (p + 1))
+  end_ends s inv =
+      let t : ℕ = get_or list p 0 in
+      let tag : rule.end ≡ Some t = is_tag_some rule.end t (end_seen (ends_list rule t) (stands_alone rule t) _ (s ∙ here rule list p h) (λ z. grind arith)) in
+      record {
+        verdict = turned rule list p h (verdict rule) _ End s inv;
+        octets = ap (λ o. written items ++ ending o) tag ∙ ap (λ l. l ++ (t ∷ [])) e ∙ sym (take_more list p 0 h);
       }

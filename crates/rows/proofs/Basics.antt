@@ -1,10 +1,11 @@
 -- Legs, updates of a state, and lists. Assumes nothing.
-use Rattle.std.proofs.Common.{◌≡◌, ℕ, Bool, true, false, cond, T, eqb, List, [], ◌∷◌, ◌++◌, length, Some, None, Option, refl, ap, ap₂, arith}
+use Rattle.std.proofs.Common.{◌≡◌, ℕ, Bool, true, false, cond, T, eqb, List, [], ◌∷◌, ◌++◌, length, Some, None, Option, sym, refl, ap, ◌∙◌, ap₂, true≢false, arith}
 use mathlib.Core.Bool.{false≢true}
 use Rattle.std.proofs.lemmas.Bool.{and_parts, eq-eqb, eqb-true}
 use Rattle.rows.specs.declared.kinds.Which.{Which}
 use Rattle.rows.specs.declared.kinds.Which.TheVariants.{First, Second}
 use Rattle.rows.specs.Legs.{other, Leg, leg, same_leg, same_which, select}
+use Rattle.rows.specs.Exchange.{LegState, State, update}
 
 pub some_inj : {A : Type 0} {a b : A} → ◌≡◌ {A = Option A} (Some a) (Some b) → a ≡ b
 some_inj e = cc
@@ -57,3 +58,18 @@ front_eq {A} (x ∷ p) q (y ∷ p') q' e h =
     let tl : p ++ q ≡ p' ++ q' = cc in
     let r : p ≡ p' = front_eq p q p' q' tl (omega arith) in
     cc
+
+-- an update at its own leg, and at another
+pub update_same : (s : State) (x : Leg) (v : LegState) → update s x v x ≡ v
+update_same s x v = rw (same_refl x)
+
+pub update_other : (s : State) (x z : Leg) (v : LegState) → same_leg z x ≡ false → update s x v z ≡ s z
+update_other s x z v e = rw e
+
+-- a leg of the set is not one out of it
+pub split_legs : (L : Leg → Bool) (x z : Leg) → L z ≡ true → L x ≡ false → same_leg z x ≡ false
+split_legs L x z hz hx = go (same_leg z x) refl
+  where
+    go : (b : Bool) → same_leg z x ≡ b → b ≡ false
+    go true e = absurd (true≢false (sym hz ∙ ap L (same_eq z x e) ∙ hx))
+    go false e = refl

@@ -92,3 +92,21 @@ same_room ys zs n e h = simp (length-append, length-drop) (omega arith)
 -- the first octet of octets that were copied to the front
 pub first_of : (xs ys zs : List ℕ) → ys ≡ xs → 1 ≤ length xs → get_or (ys ++ zs) 0 0 ≡ get_or xs 0 0
 first_of xs ys zs e h = get_or_append_left ys zs 0 0 (omega (arith, ap length e)) ∙ ap (λ l. get_or l 0 0) e
+
+-- how long each of five contents is, by the places between which it was laid
+module _ (A B C D E : List ℕ) (o₀ o₁ o₂ o₃ o₄ o₅ : List ℕ) (a b c d e : ℕ)
+    (p : Adds A 0 o₀ a o₁) (q : Adds B a o₁ b o₂) (r : Adds C b o₂ c o₃) (s : Adds D c o₃ d o₄) (t : Adds E d o₄ e o₅) where
+  pub a_is : a ≡ length A
+  a_is = omega (arith, p.count)
+
+  pub b_is : b - a ≡ length B
+  b_is = omega (arith, q.count)
+
+  pub c_is : c - b ≡ length C
+  c_is = omega (arith, r.count)
+
+  pub d_is : d - c ≡ length D
+  d_is = omega (arith, s.count)
+
+  pub e_is : e - d ≡ length E
+  e_is = omega (arith, t.count)

@@ -74,3 +74,7 @@ inside k buf out ys r h same p =
       front = ap (take (k + r)) joined ∙ ap (λ m. take m (take k buf ++ out)) e ∙ take-append-add (take k buf) out r ∙ ap (λ l. take k buf ++ l) p.front;
       rest = ap (drop (k + r)) joined ∙ ap (λ m. drop m (take k buf ++ out)) e ∙ drop-append-add (take k buf) out r ∙ p.rest ∙ ap (drop r) (take_rest buf k) ∙ drop-drop r k buf;
     }
+
+-- nothing is added
+pub none : (at : ℕ) (buf : List ℕ) → Adds [] at buf at buf
+none at buf = record { count = omega arith; front = sym (append-nil (take at buf)); rest = refl }

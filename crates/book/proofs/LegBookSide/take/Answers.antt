@@ -2,7 +2,7 @@ use Rattle.std.proofs.Common.{refl}
 use Rattle.std.proofs.lemmas.Result.{err_from_is_err_and}
 use Rattle.side.specs.Signals.{heard_of}
 use Rattle.book.specs.Legs.{legs_of}
-use Rattle.book.proofs.Settles.{taking, has, balks, settles, lacks}
+use Rattle.book.proofs.Settles.{taking, has, leg_balks, leg_settles, lacks}
 use Rattle.book.proofs.LegBookSide.take.Goals as goal
 
 pub put-requires : goal.put-requires
@@ -25,7 +25,7 @@ returns-in_err-next g c =
     let M = g.S.Signalling.meaning in
     let p = err_from_is_err_and c.from_residual-in_err-next.result c.from_residual-in_err-next.ensures.1 in
     rw (p.1, p.2) (record {
-      did = balks M (legs_of M.most c.args.self.now.records.now) (taking M (heard_of c.args.reading.now)) c.args.reply.now _ c.get.ensures _ _ _ c.in_ok-record.ensures.ok_part c.in_err-next.ensures;
+      did = leg_balks M (legs_of M.most c.args.self.now.records.now) (taking M (heard_of c.args.reading.now)) c.args.reply.now _ c.get.ensures _ _ _ c.in_ok-record.ensures.ok_part c.in_err-next.ensures;
       beyond = refl;
       lender = refl;
     })
@@ -34,7 +34,7 @@ pub returns : goal.returns
 returns g c =
     let M = g.S.Signalling.meaning in
     record {
-      did = settles M (legs_of M.most c.args.self.now.records.now) (taking M (heard_of c.args.reading.now)) c.args.reply.now _ c.get.ensures _ _ _ _ _ c.in_ok-record.ensures.ok_part c.in_ok-next.ensures c.put.ensures.legs;
+      did = leg_settles M (legs_of M.most c.args.self.now.records.now) (taking M (heard_of c.args.reading.now)) c.args.reply.now _ c.get.ensures _ _ _ _ _ c.in_ok-record.ensures.ok_part c.in_ok-next.ensures c.put.ensures.legs;
       beyond = c.put.ensures.rest;
       lender = c.put.ensures.lender;
     }

@@ -2,7 +2,7 @@ use Rattle.std.proofs.Common.{refl}
 use Rattle.std.proofs.lemmas.Result.{err_from_is_err_and}
 use Rattle.side.specs.Signals.{kind_of, contents_of}
 use Rattle.book.specs.Legs.{legs_of}
-use Rattle.book.proofs.Settles.{telling, has, balks, settles, lacks}
+use Rattle.book.proofs.Settles.{telling, has, leg_balks, leg_settles, lacks}
 use Rattle.book.proofs.LegBookSide.tell.Goals as goal
 
 pub put-requires : goal.put-requires
@@ -25,7 +25,7 @@ returns-in_err-next g c =
     let M = g.S.Signalling.meaning in
     let p = err_from_is_err_and c.from_residual-in_err-next.result c.from_residual-in_err-next.ensures.1 in
     rw (p.1, p.2) (record {
-      did = balks M (legs_of M.most c.args.self.now.records.now) (telling M c.args.leg.number (kind_of c.args.signal.now) (contents_of c.args.signal.now)) c.args.message.now _ c.get.ensures _ _ _ c.in_ok-record.ensures.ok_part c.in_err-next.ensures;
+      did = leg_balks M (legs_of M.most c.args.self.now.records.now) (telling M c.args.leg.number (kind_of c.args.signal.now) (contents_of c.args.signal.now)) c.args.message.now _ c.get.ensures _ _ _ c.in_ok-record.ensures.ok_part c.in_err-next.ensures;
       beyond = refl;
       lender = refl;
     })
@@ -34,7 +34,7 @@ pub returns : goal.returns
 returns g c =
     let M = g.S.Signalling.meaning in
     record {
-      did = settles M (legs_of M.most c.args.self.now.records.now) (telling M c.args.leg.number (kind_of c.args.signal.now) (contents_of c.args.signal.now)) c.args.message.now _ c.get.ensures _ _ _ _ _ c.in_ok-record.ensures.ok_part c.in_ok-next.ensures c.put.ensures.legs;
+      did = leg_settles M (legs_of M.most c.args.self.now.records.now) (telling M c.args.leg.number (kind_of c.args.signal.now) (contents_of c.args.signal.now)) c.args.message.now _ c.get.ensures _ _ _ _ _ c.in_ok-record.ensures.ok_part c.in_ok-next.ensures c.put.ensures.legs;
       beyond = c.put.ensures.rest;
       lender = c.put.ensures.lender;
     }
