@@ -63,6 +63,18 @@ halves_read os front rest pairs e long each =
     ∙ take_at (flat_map pair_read os) (flat_map pair_read rest) (2 * length os) (ap length (pairs_read os) ∙ length-map (halves os) (λ s. s + 48) ∙ length_halves os)
     ∙ pairs_read os
 
+-- the same of pairs filled one by one, so many as there are octets, with other pairs behind
+pub halves_filled : (os : List ℕ) (front rest : List (List ℕ)) → length front ≡ length os → take (length os) front ≡ take (length os) (map pair_read os)
+    → take (2 * length os) (flat_map (λ x. x) (front ++ rest)) ≡ digits_of (halves os)
+halves_filled os front rest long e =
+    let filled : front ≡ map pair_read os =
+    sym (take_all (length os) front (omega (arith, long))) ∙ e ∙ take_all (length os) (map pair_read os) (omega (arith, length-map os pair_read))
+    in
+    ap (λ l. take (2 * length os) (flat_map (λ x. x) (l ++ rest))) filled
+    ∙ ap (take (2 * length os)) (flat_map-append (λ x. x) (map pair_read os) rest ∙ ap (λ l. l ++ flat_map (λ x. x) rest) (flat_map-map (λ x. x) pair_read os))
+    ∙ take_at (flat_map pair_read os) (flat_map (λ x. x) rest) (2 * length os) (ap length (pairs_read os) ∙ length-map (halves os) (λ s. s + 48) ∙ length_halves os)
+    ∙ pairs_read os
+
 -- without the spare half
 pub used_read : (odd : Bool) (os text : List ℕ) → text ≡ digits_of (halves os) → (if odd then but_last text else text) ≡ digits_of (signals_in odd os)
 used_read odd os text e = rw e (grind (arith, common_steps, take-map))

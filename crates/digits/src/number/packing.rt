@@ -58,9 +58,11 @@ pub fn unpack(octets: &[u8], odd: bool) -> Result<Digits, DigitFault>
     if octets.len() > MOST_OCTETS {
         return Err(DigitFault::TooMany);
     }
-    let mut held = [0u8; MOST_OCTETS];
-    held[..octets.len()].copy_from_slice(octets);
-    let halves = held.map(characters_in);
+    // One by one, and not by a map of an array: that would read eleven octets where one came.
+    let mut halves = [[0u8; 2]; MOST_OCTETS];
+    for (n, pair) in halves[..octets.len()].iter_mut().enumerate() {
+        *pair = characters_in(octets[n]);
+    }
     let text = without_spare(&halves.as_flattened()[..2 * octets.len()], odd);
     Digits::read(without_end(text))
 }
