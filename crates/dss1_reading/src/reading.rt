@@ -81,14 +81,22 @@ impl Body<'_> {
         ensures { signal_as result ≡ body_read message (body_in self.entry.octets.now) }
     {
         match message {
-            MessageType::Alerting => Ok(Signal::Alerting(self.progress(), true, self.parts()?)),
+            // The parts first: where they are refused nothing else is looked for.
+            MessageType::Alerting => {
+                let parts = self.parts()?;
+                Ok(Signal::Alerting(self.progress(), true, parts))
+            }
             MessageType::CallProceeding => self.proceeding(),
             MessageType::Progress => self.in_progress(),
             MessageType::Setup => self.setup(),
-            MessageType::Connect => Ok(Signal::Answer(self.progress(), true, self.parts()?)),
+            MessageType::Connect => {
+                let parts = self.parts()?;
+                Ok(Signal::Answer(self.progress(), true, parts))
+            }
             MessageType::ConnectAcknowledge => Ok(Signal::Quiet),
             MessageType::Disconnect | MessageType::Release | MessageType::ReleaseComplete => {
-                Ok(Signal::Clear(self.cause(), self.parts()?))
+                let parts = self.parts()?;
+                Ok(Signal::Clear(self.cause(), parts))
             }
         }
     }
