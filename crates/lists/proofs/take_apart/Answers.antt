@@ -1,4 +1,4 @@
-use Rattle.std.proofs.Common.{take, vec_items, ◌∷◌, [], ◌++◌, sym, ap, ◌∙◌, arith}
+use Rattle.std.proofs.Common.{take, vec_items, ◌∷◌, [], ◌++◌, sym, ap, ◌∙◌, arith, rules}
 use Rattle.std.proofs.lemmas.Grind.{common_steps}
 use Rattle.writer.specs.Items.{written}
 use Rattle.lists.proofs.Aparts.{one_more, ends}
@@ -17,10 +17,10 @@ loop-element-preserved g c =
           ∙ (λ i. take (sym s.2.1 i) (sym s.1 i)),
     )
 
--- By grind, and by no name of the call that tells the end: another expression of the same value is proved as well.
+-- By search, and by no name of the call that tells the end: another expression of the same value is proved as well.
 pub returns : goal.returns
 returns g c =
     let inv = c.loop-element.invariant in
     let s = c.in_default.ensures.steps in
     rw (← inv.0, ← inv.1)
-    (ends c.loop-element.elements.rule c.loop-element.elements.list.now c.loop-element.elements.place (vec_items c.loop-element.items) inv.3 s.2.1 _ (grind arith) (grind arith))
+    (ends c.loop-element.elements.rule c.loop-element.elements.list.now c.loop-element.elements.place (vec_items c.loop-element.items) inv.3 s.2.1 _ (search rules) (search rules))
