@@ -24,13 +24,13 @@ use Rattle.side.specs.declared.parts.Parts.{Parts}
 use Rattle.side.specs.Contents as side
 use Rattle.side.specs.Signals.{Contents, bearer_of, noted}
 use Rattle.side.proofs.Limited.{bearer_served}
-use Rattle.carried.specs.Carried.{parts_of, bad_at, sooner, both, refused}
+use Rattle.carried.specs.Carried.{parts_of, bad_at, sooner, both, earlier, refused}
 use Rattle.carried.specs.Messages.{Said, numbered, number_of}
-use Rattle.carried.proofs.Refusals.{both_refused_at, both_ok}
+use Rattle.carried.proofs.Refusals.{both_refused_at, both_ok, sooner_refused}
 use Rattle.dss1_meaning.specs.declared.types.MessageType.{MessageType}
 use Rattle.carried.specs.declared.UnknownOctet.{UnknownOctet}
 use Rattle.dss1_meaning.specs.Dss1.{refusal, headed, type_in, exchange, named, Body, body_in, number_in, parts_bad, setup_says, setup_bad, setup_read, judged, body_read, heard_as, list_read, type_read, reads}
-use Rattle.dss1_reading.specs.Reads.{list_fault}
+use Rattle.dss1_reading.specs.Reads.{list_fault, setup_fault}
 
 -- a bearer that is read is one that is served
 pub bearer_read : (o : List ℕ) (r : Result Bearer BearerFault) → MatchResult r (λ b. bearer_of b ≡ o) (λ e. bearer_in o ≡ Err e) → MatchOption (result_ok r) (is_ok (bearer_in o) ≡ false) (λ _. is_ok (bearer_in o) ≡ true)
@@ -50,38 +50,35 @@ pub judged_said : (o : Option ℕ) (k : Kind) (c d : Contents) → None ≡ opti
 judged_said None k c d h e = ap (λ x. Ok (record { kind = k; contents = x })) e
 judged_said (Some p) k c d h e = absurd (grind arith)
 
--- a setup whose bearer and number are there
-module _ (b : Body) (x : Result Bearer Refusal) (n : Result Number Refusal) (p : Result Parts Refusal)
-    (inner : Result (Number × Parts) Refusal) (is-inner : inner ≡ both n p)
-    (bearer-there : 0 < length b.bearer) (number_there : 0 < length b.number)
-    (bad-x : refused x ≡ option_map (refusal BadValue) (bad_at (is_ok (bearer_in b.bearer)) b.bearer_at))
-    (bad-n : refused n ≡ option_map (refusal BadValue) (bad_at (is_some (number_in b.number)) b.number_at))
-    (bad-p : refused p ≡ option_map (refusal BadValue) (parts_bad b)) where
-  bad : refused (both x inner) ≡ option_map (refusal BadValue) (setup_bad b)
-  bad =
-      both_refused_at (refusal BadValue) (λ q. refl) x inner _ _ bad-x
-      (ap refused is-inner ∙ both_refused_at (refusal BadValue) (λ q. refl) n p _ _ bad-n bad-p)
+-- the refusal at the smallest place is the one at the sooner of the places
+pub setup_fault_is : (b : Body) → setup_fault b ≡ option_map (refusal BadValue) (setup_bad b)
+setup_fault_is b =
+    sym
+    (sooner_refused (refusal BadValue) (λ q. refl) (bad_at (is_ok (bearer_in b.bearer)) b.bearer_at) _
+    ∙ ap (earlier (option_map (refusal BadValue) (bad_at (is_ok (bearer_in b.bearer)) b.bearer_at))) (sooner_refused (refusal BadValue) (λ q. refl) (bad_at (is_some (number_in b.number)) b.number_at) (parts_bad b)))
+
+-- a setup whose bearer and number are there, and its three values, or their refusal
+module _ (b : Body) (bearer-there : 0 < length b.bearer) (number_there : 0 < length b.number)
+    (r : Result (Bearer × (Number × Parts)) Refusal) (fault : refused r ≡ setup_fault b) where
+  bad : refused r ≡ option_map (refusal BadValue) (setup_bad b)
+  bad = fault ∙ setup_fault_is b
 
   head : setup_read b ≡ judged (setup_bad b) kind.Setup (setup_says b)
   head = cond-true _ _ _ (λ i. lt-ltb 0 (length b.bearer) bearer-there i && lt-ltb 0 (length b.number) number_there i)
 
   -- with a value outside its rule
-  pub setup_refused : (e : Refusal) → Err e ≡ both x inner → Err e ≡ setup_read b
-  setup_refused e h = judged_refused (setup_bad b) kind.Setup (setup_says b) e (ap refused h ∙ bad) ∙ sym head
+  pub setup_refused : (e : Refusal) → r ≡ Err e → Err e ≡ setup_read b
+  setup_refused e h = judged_refused (setup_bad b) kind.Setup (setup_says b) e (sym (ap refused h) ∙ bad) ∙ sym head
 
   -- with every value in its rule
-  module _ (value-x : IfOk x (λ v. bearer_of v ≡ b.bearer)) (value-n : IfOk n (λ v. Some (number_of v) ≡ number_in b.number)) (value-p : IfOk p (λ v. side.parts_of v ≡ parts_of b.parts))
-      (v : Bearer × (Number × Parts)) (e : Ok v ≡ both x inner) (progress : Option (ℕ × ℕ)) (progress-is : progress ≡ noted b.progress) where
+  module _ (values : IfOk r (λ v. (bearer_of v.0 ≡ b.bearer) × (Some (number_of v.1.0) ≡ number_in b.number) × (side.parts_of v.1.1 ≡ parts_of b.parts)))
+      (v : Bearer × (Number × Parts)) (e : r ≡ Ok v) (progress : Option (ℕ × ℕ)) (progress-is : progress ≡ noted b.progress) where
     pub setup_said :
         Ok (record { kind = kind.Setup; contents = record { bearer = bearer_of v.0; number = Some (number_of v.1.0); progress = progress; cause = None; isdn = true; parts = side.parts_of v.1.1 } }) ≡ setup_read b
     setup_said =
-        let one = both_ok x inner v e in
-        let two = both_ok n p v.1 (sym one.1 ∙ is-inner) in
-        let X = IfOk-at_ok (λ v. bearer_of v ≡ b.bearer) one.0 value-x in
-        let N = IfOk-at_ok (λ v. Some (number_of v) ≡ number_in b.number) two.0 value-n in
-        let P = IfOk-at_ok (λ v. side.parts_of v ≡ parts_of b.parts) two.1 value-p in
-        judged_said (setup_bad b) kind.Setup _ (setup_says b) (ap refused e ∙ bad)
-        (λ i. record { bearer = X i; number = N i; progress = progress-is i; cause = None; isdn = true; parts = P i }) ∙ sym head
+        let are = IfOk-at_ok (λ v. (bearer_of v.0 ≡ b.bearer) × (Some (number_of v.1.0) ≡ number_in b.number) × (side.parts_of v.1.1 ≡ parts_of b.parts)) e values in
+        judged_said (setup_bad b) kind.Setup _ (setup_says b) (sym (ap refused e) ∙ bad)
+        (λ i. record { bearer = are.0 i; number = are.1 i; progress = progress-is i; cause = None; isdn = true; parts = are.2 i }) ∙ sym head
 
 -- a type that was found, whatever one that was not is refused with
 pub type_found : (o : Option MessageType) (t : MessageType) (u : UnknownOctet) (r : Result MessageType UnknownOctet) (m : Result MessageType Refusal) (P : UnknownOctet → Type 0) →

@@ -64,7 +64,12 @@ impl<'a> Body<'a> {
     fn or_refuse<T: Copy>(self, value: Option<T>, tag: u8) -> Result<T, Refusal>
         ensures { result ≡ ok_or value (refusal BadValue (tag_place dss1 4 tag self.entry.octets.now)) }
     {
-        value.ok_or(System::Dss1.refuses(Reason::BadValue, self.place_of(tag)))
+        // The place costs a walk of the list, so it is looked for only where the value is refused; ok_or would look
+        // always, and what a closure of ok_or_else found was not known to the proof.
+        match value {
+            Some(value) => Ok(value),
+            None => Err(System::Dss1.refuses(Reason::BadValue, self.place_of(tag))),
+        }
     }
 
     /// Whether the list is whole: an element that breaks off is refused at its tag.
@@ -103,10 +108,14 @@ impl<'a> Body<'a> {
         ensures bad { refused result ≡ option_map (refusal BadValue) (parts_bad (body_in self.entry.octets.now)) }
         ensures are { IfOk result (λ p. side.parts_of p ≡ parts_of (body_in self.entry.octets.now).parts) }
     {
-        let place = self.place_of(USER_USER);
-        carried::parts(self.octets, Some(self.found(USER_USER))).map_err(|fault| {
-            System::Dss1.refuses(Reason::BadValue, carried::refused_at(fault, place))
-        })
+        match carried::parts(self.octets, Some(self.found(USER_USER))) {
+            Ok(parts) => Ok(parts),
+            // The place only here, and in no closure, as in or_refuse.
+            Err(fault) => {
+                let place = carried::refused_at(fault, self.place_of(USER_USER));
+                Err(System::Dss1.refuses(Reason::BadValue, place))
+            }
+        }
     }
 
     /// The progress.

@@ -1,16 +1,20 @@
 //! Reads a message: protocol 08, length of the reference, reference, type, and a list of elements.
-ghost use Rattle.std.specs.Prelude.{◌≡◌, ℕ};
-ghost use Rattle.side.specs.Signals.{noted, read_as};
-ghost use Rattle.carried.specs.Messages.{signal_as};
-ghost use Rattle.dss1_meaning.specs.Dss1.{headed, body_in, setup_read, proceeding_read, progress_read, body_read, reads};
+ghost use Rattle.std.specs.Prelude.{◌≡◌, ℕ, IfOk, Some};
+ghost use Rattle.side.specs.Contents as side;
+ghost use Rattle.side.specs.Signals.{bearer_of, noted, read_as};
+ghost use Rattle.carried.specs.Carried.{parts_of, refused};
+ghost use Rattle.carried.specs.Messages.{number_of, signal_as};
+ghost use Rattle.dss1_meaning.specs.Dss1.{headed, body_in, number_in, setup_read, proceeding_read, progress_read, body_read, reads};
+ghost use Rattle.dss1_reading.specs.Reads.{setup_fault};
 
 use crate::list::{Body, HEAD};
 use crate::octets::{BEARER, NUMBER, PROTOCOL, REFERENCE_LENGTH};
 use crate::reference::leg_of;
 use carried::both;
 use dss1_meaning::types::MessageType;
-use side::contents::{Reading, Setup, Signal};
+use side::contents::{Bearer, Number, Reading, Setup, Signal};
 use side::kinds::{Reason, Refusal, System};
+use side::parts::Parts;
 use side::refusing::LONGEST;
 
 /// The place of the reference.
@@ -33,6 +37,15 @@ fn has_head(message: &[u8]) -> bool
 }
 
 impl Body<'_> {
+    // Apart from setup: which of several refusals is told is a promise of its own.
+    /// The values of a setup, or of their refusals the one at the smallest place.
+    fn setup_values(self) -> Result<(Bearer, (Number, Parts)), Refusal>
+        ensures bad { refused result ≡ setup_fault (body_in self.entry.octets.now) }
+        ensures are { IfOk result (λ v. (bearer_of v.0 ≡ (body_in self.entry.octets.now).bearer) × (Some (number_of v.1.0) ≡ number_in (body_in self.entry.octets.now).number) × (side.parts_of v.1.1 ≡ parts_of (body_in self.entry.octets.now).parts)) }
+    {
+        both(self.bearer(), both(self.number(), self.parts()))
+    }
+
     /// What a setup says: it needs a bearer and a number.
     fn setup(self) -> Result<Signal, Refusal>
         ensures { signal_as result ≡ setup_read (body_in self.entry.octets.now) }
@@ -40,7 +53,7 @@ impl Body<'_> {
         if self.found(BEARER).is_empty() || self.found(NUMBER).is_empty() {
             return Err(System::Dss1.refuses(Reason::Missing, 0));
         }
-        let (bearer, (number, parts)) = both(self.bearer(), both(self.number(), self.parts()))?;
+        let (bearer, (number, parts)) = self.setup_values()?;
         Ok(Signal::Setup(Setup {
             bearer,
             number,
@@ -81,14 +94,22 @@ impl Body<'_> {
         ensures { signal_as result ≡ body_read message (body_in self.entry.octets.now) }
     {
         match message {
-            MessageType::Alerting => Ok(Signal::Alerting(self.progress(), true, self.parts()?)),
+            // The parts first: where they are refused nothing else is looked for.
+            MessageType::Alerting => {
+                let parts = self.parts()?;
+                Ok(Signal::Alerting(self.progress(), true, parts))
+            }
             MessageType::CallProceeding => self.proceeding(),
             MessageType::Progress => self.in_progress(),
             MessageType::Setup => self.setup(),
-            MessageType::Connect => Ok(Signal::Answer(self.progress(), true, self.parts()?)),
+            MessageType::Connect => {
+                let parts = self.parts()?;
+                Ok(Signal::Answer(self.progress(), true, parts))
+            }
             MessageType::ConnectAcknowledge => Ok(Signal::Quiet),
             MessageType::Disconnect | MessageType::Release | MessageType::ReleaseComplete => {
-                Ok(Signal::Clear(self.cause(), self.parts()?))
+                let parts = self.parts()?;
+                Ok(Signal::Clear(self.cause(), parts))
             }
         }
     }

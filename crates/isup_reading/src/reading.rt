@@ -144,19 +144,22 @@ impl Body<'_> {
         }))
     }
 
-    // Two functions: each is one line, and a helper that takes the constructor would be a third.
+    // Two functions: each is two lines, and a helper that takes the constructor would be a third.
+    // The parts first: where they are refused nothing else is looked for.
     /// What a message says that rings the called party.
     fn alerting(self, isdn: bool) -> Result<Signal, Refusal>
         ensures { signal_as result ≡ judged (parts_bad (body_of self.entry)) kind.Alerting (party_says isdn (body_of self.entry)) }
     {
-        Ok(Signal::Alerting(self.progress(), isdn, self.parts()?))
+        let parts = self.parts()?;
+        Ok(Signal::Alerting(self.progress(), isdn, parts))
     }
 
     /// What a message says by which the called party answers.
     fn answer(self, isdn: bool) -> Result<Signal, Refusal>
         ensures { signal_as result ≡ judged (parts_bad (body_of self.entry)) kind.Answer (party_says isdn (body_of self.entry)) }
     {
-        Ok(Signal::Answer(self.progress(), isdn, self.parts()?))
+        let parts = self.parts()?;
+        Ok(Signal::Answer(self.progress(), isdn, parts))
     }
 
     /// Progress in access transport.

@@ -10,14 +10,12 @@ returns-in_err-bearer c =
     let bearer = filled c.found.result.now b.bearer c.if-is_empty.ensures c.found.ensures in
     let number = filled c.found-else-is_empty.result.now b.number c.if-is_empty-2.ensures c.found-else-is_empty.ensures in
     rw (p.1, p.2)
-    (setup_refused b c.bearer.result c.number.result c.parts.result c.both.result c.both.ensures bearer number
-    c.bearer.ensures.bad c.number.ensures.bad c.parts.ensures.bad c.in_err-bearer.field-0.0 c.in_err-bearer.ensures)
+    (setup_refused b bearer number c.setup_values.result c.setup_values.ensures.bad c.in_err-bearer.field-0.0 c.in_err-bearer.was)
 
 pub returns : goal.returns
 returns c =
     let b = body_in c.args.self.octets.now in
     let bearer = filled c.found.result.now b.bearer c.if-is_empty.ensures c.found.ensures in
     let number = filled c.found-else-is_empty.result.now b.number c.if-is_empty-2.ensures c.found-else-is_empty.ensures in
-    setup_said b c.bearer.result c.number.result c.parts.result c.both.result c.both.ensures bearer number
-    c.bearer.ensures.bad c.number.ensures.bad c.parts.ensures.bad c.bearer.ensures.is c.number.ensures.is c.parts.ensures.are
-    (c.in_ok-bearer.bearer, (c.in_ok-bearer.number, c.in_ok-bearer.parts)) c.in_ok-bearer.ensures _ c.progress.ensures
+    setup_said b bearer number c.setup_values.result c.setup_values.ensures.bad c.setup_values.ensures.are
+    (c.in_ok-bearer.bearer, (c.in_ok-bearer.number, c.in_ok-bearer.parts)) c.in_ok-bearer.was _ c.progress.ensures
