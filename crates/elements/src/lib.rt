@@ -113,20 +113,22 @@ impl EndRule {
         }
     }
 
-    /// The whole element at a place.
-    fn element_at<'a>(self, list: &'a [u8], place: usize) -> Option<ListElement<'a>>
-        ensures { MatchOption result (Stops (seen self (drop place list.now))) (StandsAt self list.now place) }
+    // Both at once: where the place is asked of the element afterwards, a list of one-octet elements takes half as long again.
+    /// The whole element at a place, and the place behind it.
+    fn element_at<'a>(self, list: &'a [u8], place: usize) -> Option<(ListElement<'a>, usize)>
+        ensures { MatchOption result (Stops (seen self (drop place list.now))) (λ x. StandsAt self list.now place x.0 × (x.1 ≡ place + size_of x.0)) }
     {
-        let contents = match self.look(list, place) {
-            Seen::Single => None,
-            Seen::Element(n) => Some(&list[place + 2..place + 2 + n]),
+        let (contents, behind) = match self.look(list, place) {
+            Seen::Single => (None, place + 1),
+            Seen::Element(n) => (Some(&list[place + 2..place + 2 + n]), place + 2 + n),
             Seen::Nothing | Seen::End | Seen::Broken => return None,
         };
-        Some(ListElement {
+        let element = ListElement {
             place,
             tag: list[place],
             contents,
-        })
+        };
+        Some((element, behind))
     }
 }
 
@@ -184,8 +186,8 @@ impl<'a> Iterator for Elements<'a> {
     ghost next_gives = { λ s r t. (t.rule ≡ s.rule) × (t.list.now ≡ s.list.now) × MatchOption r ((t.place ≡ s.place) × Stops (seen s.rule (drop s.place s.list.now))) (λ e. StandsAt s.rule s.list.now s.place e × (t.place ≡ s.place + size_of e)) };
 
     fn next(&mut self) -> Option<ListElement<'a>> {
-        let element = self.rule.element_at(self.list, self.place)?;
-        self.place += element.size();
+        let (element, behind) = self.rule.element_at(self.list, self.place)?;
+        self.place = behind;
         Some(element)
     }
 }

@@ -1,5 +1,4 @@
-ghost use Rattle.std.specs.Prelude.{◌≡◌, ◌<◌, ◌^◌, Some};
-ghost use Rattle.elements.specs.Places.{size_of};
+ghost use Rattle.std.specs.Prelude.{◌≡◌, Some};
 ghost use Rattle.elements.specs.Faults.{fault_place, fault_behind, fault_text};
 
 use std::error::Error;
@@ -47,16 +46,6 @@ pub enum ListFault {
     BreaksOff(usize),
     /// Every element is whole and the end tag is missing; the place is where it should stand.
     NoEnd(usize),
-}
-
-impl ListElement<'_> {
-    /// How many octets it takes.
-    pub(crate) fn size(self) -> usize
-        requires { size_of self < 2 ^ 64 }
-        ensures { result ≡ size_of self.entry }
-    {
-        self.contents.map_or(1, |contents| 2 + contents.len())
-    }
 }
 
 impl ListFault {
