@@ -17,7 +17,8 @@ abbrev pub list_fault : Result ℕ ListFault → Option Refusal
 list_fault (Ok n) = None
 list_fault (Err f) = Some (record { reason = Malformed; place = 4 + fault_place f; system = Dss1; layer = InList })
 
--- what stands against a setup's bearer, number and parts: the refusal at the smallest place
+-- what stands against a setup's bearer, number and parts: the refusal at the smallest place; by refusals, as each is told,
+-- and at the place that the table of DSS 1 gives (`setup_fault_is` of proofs/Readings)
 abbrev pub setup_fault : Body → Option Refusal
 setup_fault b =
     earlier (option_map (refusal BadValue) (bad_at (is_ok (bearer_in b.bearer)) b.bearer_at))

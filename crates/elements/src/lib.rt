@@ -99,7 +99,7 @@ impl EndRule {
         ensures seen { result ≡ seen self (drop place list.now) }
         ensures within { elim result [ Nothing ↦ length list.now ≤ place | End ↦ place < length list.now | Single ↦ place < length list.now | Element n ↦ place + 2 + n ≤ length list.now | Broken ↦ place < length list.now ] }
     {
-        // Asked apart, and not by `get` and `unwrap_or`: the walk over a list then costs up to half as much again.
+        // Asked apart: by `get` and `unwrap_or` the walk over a list costs up to half as much again.
         if place >= list.len() {
             return Seen::Nothing;
         }
@@ -197,11 +197,12 @@ fn first<'a, C: Coding>(list: &'a [u8], wanted: u8) -> Option<(usize, &'a [u8])>
     ensures { option_map (λ x. record { place = x.0; tag = wanted; contents = x.1.now }) result ≡ item_in wanted (walk C.rule 0 0 list.now) }
 {
     for element in Elements::of::<C>(list) {
-        match element.contents {
-            Some(contents) if element.tag == wanted && !contents.is_empty() => {
-                return Some((element.place, contents));
+        // The tag first: most elements are passed over for it alone.
+        if element.tag == wanted {
+            match element.contents {
+                Some(contents) if !contents.is_empty() => return Some((element.place, contents)),
+                _ => {}
             }
-            _ => {}
         }
     }
     None
