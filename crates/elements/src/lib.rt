@@ -99,7 +99,7 @@ impl EndRule {
         ensures seen { result ≡ seen self (drop place list.now) }
         ensures within { elim result [ Nothing ↦ length list.now ≤ place | End ↦ place < length list.now | Single ↦ place < length list.now | Element n ↦ place + 2 + n ≤ length list.now | Broken ↦ place < length list.now ] }
     {
-        // Asked apart: by `get` and `unwrap_or` the walk over a list costs up to half as much again.
+        // Asked apart: by `get` and `unwrap_or` the walk over a list takes up to two thirds more instructions.
         if place >= list.len() {
             return Seen::Nothing;
         }
@@ -162,7 +162,7 @@ impl<'a> Elements<'a> {
     }
 
     /// Passes over the elements that are left: the length of the list, its end tag counted, or what is wrong with it.
-    // Inlined, so that the loop knows the rule of the coding: short lists are read in half the time.
+    // Inlined, so that the loop knows the rule of the coding: a short list then takes a quarter fewer instructions.
     #[inline(always)]
     pub fn end(mut self) -> Result<usize, ListFault>
         ensures { result ≡ verdict self.entry.rule (walk_from self.entry.rule self.entry.list.now self.entry.place) }
